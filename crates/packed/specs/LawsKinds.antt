@@ -1,0 +1,26 @@
+-- Laws of the six kinds.
+use Prim.Native.Nat.{ℕ, zero, suc}
+use mathlib.Core.Path.{_≡_, refl}
+use mathlib.Core.List.{List, [], _∷_}
+use Rattle.packed.specs.Kinds.{byKind, line, usesOf}
+use Rattle.packed.specs.declared.fields.Fields.{Fields}
+
+-- a kind that is none of the six, as a match on the six leaves it
+abbrev pub Other : ℕ → Type 0
+Other kind =
+    ((((((Unit {0} × (kind ≡ 1 → ⊥)) × (kind ≡ 2 → ⊥)) × (kind ≡ 3 → ⊥)) × (kind ≡ 4 → ⊥)) × (kind ≡ 5 → ⊥)) × (kind ≡ 6 → ⊥))
+
+pub other-kind : {A : Type 0} (none set add take copy move floor : A) (kind : ℕ) → Other kind
+    → byKind none set add take copy move floor kind ≡ none
+other-kind none set add take copy move floor zero other = refl
+other-kind none set add take copy move floor (suc zero) other = absurd (other .0 .0 .0 .0 .0 .1 refl)
+other-kind none set add take copy move floor (suc (suc zero)) other = absurd (other .0 .0 .0 .0 .1 refl)
+other-kind none set add take copy move floor (suc (suc (suc zero))) other = absurd (other .0 .0 .0 .1 refl)
+other-kind none set add take copy move floor (suc (suc (suc (suc zero)))) other = absurd (other .0 .0 .1 refl)
+other-kind none set add take copy move floor (suc (suc (suc (suc (suc zero))))) other = absurd (other .0 .1 refl)
+other-kind none set add take copy move floor (suc (suc (suc (suc (suc (suc zero)))))) other = absurd (other .1 refl)
+other-kind none set add take copy move floor (suc (suc (suc (suc (suc (suc (suc kind))))))) other = refl
+
+pub uses-other : (x : Fields) → Other (x .kind) → usesOf x ≡ line [] [] 0
+unfolding usesOf
+uses-other x other = other-kind _ _ _ _ _ _ _ (x .kind) other

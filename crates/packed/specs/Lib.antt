@@ -1,0 +1,13 @@
+pub mod Checks
+pub mod Decode
+pub mod Encode
+pub mod Fields
+pub mod Form
+pub mod Kinds
+pub mod LawsEncode
+pub mod LawsForm
+pub mod LawsKinds
+pub mod LawsRecords
+pub mod Packing
+pub mod Records
+pub mod Unpacking

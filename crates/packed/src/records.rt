@@ -1,0 +1,152 @@
+// Refusals 5 to 8: the records of an entry that is not malformed. An action is judged by the table of kinds.
+ghost use mathlib.Core.Path.{_≡_};
+ghost use Prim.Native.Nat.{_≤_};
+ghost use lib.ListN.{length};
+ghost use Rattle.packed.specs.Fields.{byteAt};
+ghost use Rattle.packed.specs.Records.{someAction, tooLarge, setTooLarge, usesTooLarge, noSuchRecord};
+ghost use Rattle.packed.specs.Records.{descends, notAscending};
+ghost use Rattle.packed.specs.Records.{unlisted, readsUnlisted, undeclaredRead, writesUnlisted, undeclaredWrite};
+use crate::fields;
+use fields::Fields;
+
+// Which of the faults that refusals 5 to 8 name an entry has.
+pub(crate) struct Faults {
+    pub large: bool,
+    pub order: bool,
+    pub read: bool,
+    pub write: bool,
+}
+
+// Which of them its actions have.
+struct ActionFaults {
+    large: bool,
+    read: bool,
+    write: bool,
+}
+
+fn size(count: u8) -> usize
+    ensures { λ r. ⌜ r ≡ count ⌝ }
+{
+    count as usize
+}
+
+// "is N or more"
+fn too_large(number: u16, n: usize) -> bool
+    ensures { λ r. ⌜ r ≡ tooLarge n number ⌝ }
+{
+    n <= number as usize
+}
+
+fn set_too_large(set: [u16; 4], count: u8, n: usize) -> bool
+    ensures { λ r. ⌜ r ≡ setTooLarge n set count ⌝ }
+{
+    ((0 < count) & too_large(set[0], n))
+        | ((1 < count) & too_large(set[1], n))
+        | ((2 < count) & too_large(set[2], n))
+        | ((3 < count) & too_large(set[3], n))
+}
+
+fn uses_too_large(x: Fields, n: usize) -> bool
+    ensures { λ r. ⌜ r ≡ usesTooLarge n x ⌝ }
+{
+    let kind = x.kind;
+    match kind {
+        1 => too_large(x.r, n),
+        2 => too_large(x.r, n),
+        3 => too_large(x.r, n),
+        4 => too_large(x.s, n) | too_large(x.r, n),
+        5 => too_large(x.s, n) | too_large(x.r, n),
+        6 => too_large(x.r, n),
+        _ => false,
+    }
+}
+
+fn set_descends(set: [u16; 4], count: u8) -> bool
+    ensures { λ r. ⌜ r ≡ descends set count ⌝ }
+{
+    ((1 < count) & (set[1] <= set[0]))
+        | ((2 < count) & (set[2] <= set[1]))
+        | ((3 < count) & (set[3] <= set[2]))
+}
+
+// The record is not among the first `count` of a set.
+fn is_unlisted(set: [u16; 4], count: u8, number: u16) -> bool
+    ensures { λ r. ⌜ r ≡ unlisted set count number ⌝ }
+{
+    !(((0 < count) & (set[0] == number))
+        | ((1 < count) & (set[1] == number))
+        | ((2 < count) & (set[2] == number))
+        | ((3 < count) & (set[3] == number)))
+}
+
+fn reads_unlisted(x: Fields, set: [u16; 4], count: u8) -> bool
+    ensures { λ r. ⌜ r ≡ readsUnlisted set count x ⌝ }
+{
+    let kind = x.kind;
+    match kind {
+        1 => false,
+        2 => is_unlisted(set, count, x.r),
+        3 => is_unlisted(set, count, x.r),
+        4 => is_unlisted(set, count, x.s),
+        5 => is_unlisted(set, count, x.s) | is_unlisted(set, count, x.r),
+        6 => is_unlisted(set, count, x.r),
+        _ => false,
+    }
+}
+
+fn writes_unlisted(x: Fields, set: [u16; 4], count: u8) -> bool
+    ensures { λ r. ⌜ r ≡ writesUnlisted set count x ⌝ }
+{
+    let kind = x.kind;
+    match kind {
+        1 => is_unlisted(set, count, x.r),
+        2 => is_unlisted(set, count, x.r),
+        3 => is_unlisted(set, count, x.r),
+        4 => is_unlisted(set, count, x.r),
+        5 => is_unlisted(set, count, x.s) | is_unlisted(set, count, x.r),
+        6 => false,
+        _ => false,
+    }
+}
+
+// One pass over the actions within the count.
+fn action_faults_of(b: &[u8], n: usize) -> ActionFaults
+    requires { ⌜ (length (now b) ≡ 88) × (byteAt (now b) 2 ≤ 4) ⌝ }
+    ensures { λ r. ⌜ (r .large ≡ someAction (usesTooLarge n) (now (b .entry)))
+        × (r .read ≡ undeclaredRead (now (b .entry)))
+        × (r .write ≡ undeclaredWrite (now (b .entry))) ⌝ }
+{
+    let reads = fields::set_at(b, 4);
+    let writes = fields::set_at(b, 12);
+    let count = size(b[2]);
+    let mut large = false;
+    let mut read = false;
+    let mut write = false;
+    let mut k: usize = 0;
+    while k < count {
+        let x = fields::fields_at(b, 24 + 16 * k);
+        large = large | uses_too_large(x, n);
+        read = read | reads_unlisted(x, reads, b[0]);
+        write = write | writes_unlisted(x, writes, b[1]);
+        k += 1;
+    }
+    ActionFaults { large, read, write }
+}
+
+pub(crate) fn faults_of(b: &[u8], n: usize) -> Faults
+    requires { ⌜ (length (now b) ≡ 88) × (byteAt (now b) 2 ≤ 4) ⌝ }
+    ensures { λ r. ⌜ (r .large ≡ noSuchRecord n (now (b .entry)))
+        × (r .order ≡ notAscending (now (b .entry)))
+        × (r .read ≡ undeclaredRead (now (b .entry)))
+        × (r .write ≡ undeclaredWrite (now (b .entry))) ⌝ }
+{
+    let reads = fields::set_at(b, 4);
+    let writes = fields::set_at(b, 12);
+    let actions = action_faults_of(b, n);
+    Faults {
+        large: set_too_large(reads, b[0], n) | set_too_large(writes, b[1], n) | actions.large,
+        order: set_descends(reads, b[0]) | set_descends(writes, b[1]),
+        read: actions.read,
+        write: actions.write,
+    }
+}
