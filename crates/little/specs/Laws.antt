@@ -1,6 +1,6 @@
 -- Laws of numbers of several bytes, each over the width.
 use mathlib.Core.Path.{_≡_, refl, ap, sym, _∙_}
-use mathlib.Core.List.{List, [], _∷_}
+use mathlib.Core.List.{List, [], _∷_, map}
 use Prim.Native.Nat.{ℕ, zero, suc, _+_, _*_, _-_, _/_, _%_, _^_, _<_, _≤_}
 use native.Mathlib.Nat.{pow-suc, pow-le-pow-right}
 use native.Mathlib.Omega.{arith}
@@ -66,3 +66,9 @@ pub all-read : {value : ℕ} (bytes : List ℕ) (left : ℕ) → value ≡ numbe
 all-read bytes left read none-left =
     let zero-left : left ≡ 0 = omega arith in
     read ∙ rw zero-left
+
+-- bytes picked from bytes
+pub picked : (bytes : List ℕ) → Bytes bytes → (places : List ℕ) → Bytes (map (λ at. getD bytes at 0) places)
+picked bytes small [] i = omega arith
+picked bytes small (at ∷ places) zero = small at
+picked bytes small (at ∷ places) (suc i) = picked bytes small places i

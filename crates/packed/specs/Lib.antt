@@ -3,11 +3,17 @@ pub mod Decode
 pub mod Encode
 pub mod Fields
 pub mod Form
+pub mod Held
 pub mod Kinds
+pub mod LawsAccepted
 pub mod LawsEncode
 pub mod LawsForm
 pub mod LawsKinds
 pub mod LawsRecords
+pub mod LawsRoundTrip
+pub mod LawsVerdict
 pub mod Packing
 pub mod Records
+pub mod Theorems
+pub mod Unique
 pub mod Unpacking

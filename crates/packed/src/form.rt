@@ -102,5 +102,11 @@ pub(crate) fn is_malformed(b: &[u8]) -> bool
     requires { ⌜ length (now b) ≡ 88 ⌝ }
     ensures { λ r. ⌜ r ≡ malformed (now (b .entry)) ⌝ }
 {
-    count_above(b) | kinds_outside(b) | nonzero_byte(b)
+    if count_above(b) {
+        return true;
+    }
+    if kinds_outside(b) {
+        return true;
+    }
+    nonzero_byte(b)
 }

@@ -9,21 +9,6 @@ ghost use Rattle.packed.specs.Records.{unlisted, readsUnlisted, undeclar
 use crate::fields;
 use fields::Fields;
 
-// Which of the faults that refusals 5 to 8 name an entry has.
-pub(crate) struct Faults {
-    pub large: bool,
-    pub order: bool,
-    pub read: bool,
-    pub write: bool,
-}
-
-// Which of them its actions have.
-struct ActionFaults {
-    large: bool,
-    read: bool,
-    write: bool,
-}
-
 fn size(count: u8) -> usize
     ensures { λ r. ⌜ r ≡ count ⌝ }
 {
@@ -61,12 +46,50 @@ fn uses_too_large(x: Fields, n: usize) -> bool
     }
 }
 
+// An action within the count uses a record that is N or more.
+fn action_too_large(b: &[u8], n: usize) -> bool
+    requires { ⌜ (length (now b) ≡ 88) × (byteAt (now b) 2 ≤ 4) ⌝ }
+    ensures { λ r. ⌜ r ≡ someAction (usesTooLarge n) (now (b .entry)) ⌝ }
+{
+    let count = size(b[2]);
+    let mut k: usize = 0;
+    while k < count {
+        if uses_too_large(fields::fields_at(b, 24 + 16 * k), n) {
+            return true;
+        }
+        k += 1;
+    }
+    false
+}
+
+// Refusal 5.
+pub(crate) fn has_no_such_record(b: &[u8], n: usize) -> bool
+    requires { ⌜ (length (now b) ≡ 88) × (byteAt (now b) 2 ≤ 4) ⌝ }
+    ensures { λ r. ⌜ r ≡ noSuchRecord n (now (b .entry)) ⌝ }
+{
+    if set_too_large(fields::set_at(b, 4), b[0], n) {
+        return true;
+    }
+    if set_too_large(fields::set_at(b, 12), b[1], n) {
+        return true;
+    }
+    action_too_large(b, n)
+}
+
 fn set_descends(set: [u16; 4], count: u8) -> bool
     ensures { λ r. ⌜ r ≡ descends set count ⌝ }
 {
     ((1 < count) & (set[1] <= set[0]))
         | ((2 < count) & (set[2] <= set[1]))
         | ((3 < count) & (set[3] <= set[2]))
+}
+
+// Refusal 6.
+pub(crate) fn is_not_ascending(b: &[u8]) -> bool
+    requires { ⌜ length (now b) ≡ 88 ⌝ }
+    ensures { λ r. ⌜ r ≡ notAscending (now (b .entry)) ⌝ }
+{
+    set_descends(fields::set_at(b, 4), b[0]) | set_descends(fields::set_at(b, 12), b[1])
 }
 
 // The record is not among the first `count` of a set.
@@ -94,6 +117,24 @@ fn reads_unlisted(x: Fields, set: [u16; 4], count: u8) -> bool
     }
 }
 
+// Refusal 7.
+pub(crate) fn has_undeclared_read(b: &[u8]) -> bool
+    requires { ⌜ (length (now b) ≡ 88) × (byteAt (now b) 2 ≤ 4) ⌝ }
+    ensures { λ r. ⌜ r ≡ undeclaredRead (now (b .entry)) ⌝ }
+{
+    let reads = fields::set_at(b, 4);
+    let declared = b[0];
+    let count = size(b[2]);
+    let mut k: usize = 0;
+    while k < count {
+        if reads_unlisted(fields::fields_at(b, 24 + 16 * k), reads, declared) {
+            return true;
+        }
+        k += 1;
+    }
+    false
+}
+
 fn writes_unlisted(x: Fields, set: [u16; 4], count: u8) -> bool
     ensures { λ r. ⌜ r ≡ writesUnlisted set count x ⌝ }
 {
@@ -109,44 +150,20 @@ fn writes_unlisted(x: Fields, set: [u16; 4], count: u8) -> bool
     }
 }
 
-// One pass over the actions within the count.
-fn action_faults_of(b: &[u8], n: usize) -> ActionFaults
+// Refusal 8.
+pub(crate) fn has_undeclared_write(b: &[u8]) -> bool
     requires { ⌜ (length (now b) ≡ 88) × (byteAt (now b) 2 ≤ 4) ⌝ }
-    ensures { λ r. ⌜ (r .large ≡ someAction (usesTooLarge n) (now (b .entry)))
-        × (r .read ≡ undeclaredRead (now (b .entry)))
-        × (r .write ≡ undeclaredWrite (now (b .entry))) ⌝ }
+    ensures { λ r. ⌜ r ≡ undeclaredWrite (now (b .entry)) ⌝ }
 {
-    let reads = fields::set_at(b, 4);
     let writes = fields::set_at(b, 12);
+    let declared = b[1];
     let count = size(b[2]);
-    let mut large = false;
-    let mut read = false;
-    let mut write = false;
     let mut k: usize = 0;
     while k < count {
-        let x = fields::fields_at(b, 24 + 16 * k);
-        large = large | uses_too_large(x, n);
-        read = read | reads_unlisted(x, reads, b[0]);
-        write = write | writes_unlisted(x, writes, b[1]);
+        if writes_unlisted(fields::fields_at(b, 24 + 16 * k), writes, declared) {
+            return true;
+        }
         k += 1;
     }
-    ActionFaults { large, read, write }
-}
-
-pub(crate) fn faults_of(b: &[u8], n: usize) -> Faults
-    requires { ⌜ (length (now b) ≡ 88) × (byteAt (now b) 2 ≤ 4) ⌝ }
-    ensures { λ r. ⌜ (r .large ≡ noSuchRecord n (now (b .entry)))
-        × (r .order ≡ notAscending (now (b .entry)))
-        × (r .read ≡ undeclaredRead (now (b .entry)))
-        × (r .write ≡ undeclaredWrite (now (b .entry))) ⌝ }
-{
-    let reads = fields::set_at(b, 4);
-    let writes = fields::set_at(b, 12);
-    let actions = action_faults_of(b, n);
-    Faults {
-        large: set_too_large(reads, b[0], n) | set_too_large(writes, b[1], n) | actions.large,
-        order: set_descends(reads, b[0]) | set_descends(writes, b[1]),
-        read: actions.read,
-        write: actions.write,
-    }
+    false
 }

@@ -20,17 +20,16 @@ pub(crate) fn entry_verdict(b: &[u8], n: usize, index: usize) -> Verdict
     if form::is_malformed(b) {
         return Verdict::refuse(Refusal::Malformed, index);
     }
-    let faults = records::faults_of(b, n);
-    if faults.large {
+    if records::has_no_such_record(b, n) {
         return Verdict::refuse(Refusal::NoSuchRecord, index);
     }
-    if faults.order {
+    if records::is_not_ascending(b) {
         return Verdict::refuse(Refusal::NotAscending, index);
     }
-    if faults.read {
+    if records::has_undeclared_read(b) {
         return Verdict::refuse(Refusal::UndeclaredRead, index);
     }
-    if faults.write {
+    if records::has_undeclared_write(b) {
         return Verdict::refuse(Refusal::UndeclaredWrite, index);
     }
     Verdict::Accepted

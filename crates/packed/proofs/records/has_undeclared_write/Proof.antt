@@ -1,0 +1,112 @@
+use Prim.Native.Nat.{_≤_, _-_}
+use mathlib.Core.Bool.{false}
+use mathlib.Core.Path.{_≡_}
+use Rattle.packed.specs.Records.{someOf, writesUnlisted, undeclaredWrite}
+use Rattle.packed.specs.LawsRecords.{none-yet, none-more, none-found, found}
+use borrow.Author.Needs.{needs}
+use native.Mathlib.Omega.{arith}
+use Rattle.packed.proofs.records.has_undeclared_write.Statement.{statement}
+use Rattle.packed.proofs.records.has_undeclared_write.Tie as tie
+use Rattle.packed.proofs.records.has_undeclared_write.Reads as reads
+use Rattle.packed.proofs.records.has_undeclared_write.Lts as lts
+use Rattle.packed.proofs.fields.fields_at.Reads as fields-at-reads
+use Rattle.packed.proofs.fields.set_at.Reads as set-at-reads
+use Rattle.packed.proofs.records.size.Reads as size-reads
+use Rattle.packed.proofs.records.writes_unlisted.Reads as writes-unlisted-reads
+
+abbrev Inv-loop : tie.InvT-loop
+Inv-loop b writes declared count k₀ k = (k ≤ count) × (false ≡ someOf (writesUnlisted writes declared) b k)
+
+abbrev μ-loop : tie.MeasureT-loop
+μ-loop b writes declared count k₀ k = count - k
+
+-- src/records.rt:158:9
+set-at-requires : tie.Need-set-at-requires Inv-loop μ-loop
+set-at-requires c κs = search needs
+
+-- src/records.rt:159:20
+shared-slice-read-declared : tie.Need-shared-slice-read-declared Inv-loop μ-loop
+shared-slice-read-declared c = search needs
+
+-- src/records.rt:160:22
+shared-slice-read-size : tie.Need-shared-slice-read-size Inv-loop μ-loop
+shared-slice-read-size c = search needs
+
+-- src/records.rt:160:9
+size-requires : tie.Need-size-requires Inv-loop μ-loop
+size-requires c κs = search needs
+
+-- src/records.rt:162:5
+loop-holds : tie.Need-loop-holds Inv-loop μ-loop
+loop-holds c = (omega arith, none-yet _ _)
+
+-- src/records.rt:163:54
+mul-fields-at : tie.Need-mul-fields-at Inv-loop μ-loop
+mul-fields-at c = search needs
+
+-- src/records.rt:163:49
+add-fields-at : tie.Need-add-fields-at Inv-loop μ-loop
+add-fields-at c = search needs
+
+-- src/records.rt:163:28
+fields-at-requires : tie.Need-fields-at-requires Inv-loop μ-loop
+fields-at-requires c κs = search needs
+
+-- src/records.rt:163:12
+writes-unlisted-requires : tie.Need-writes-unlisted-requires Inv-loop μ-loop
+writes-unlisted-requires c κs = search needs
+
+-- src/records.rt:164:13
+returns : tie.Need-returns Inv-loop μ-loop
+unfolding undeclaredWrite
+returns c =
+    let turn = c .before .before in
+    let at = turn .before .before in
+    let answer = c .before .writes-unlisted .ensures in
+    rw (← at .before .before .before .before .set-at .ensures)
+    (found _ _ (at .loop .k) (at .before .size .ensures) (omega arith) (turn .fields-at .ensures) answer (c .if1 .taken))
+
+-- src/records.rt:166:9
+add-k : tie.Need-add-k Inv-loop μ-loop
+add-k c = search needs
+
+-- src/records.rt:162:5
+loop-less : tie.Need-loop-less Inv-loop μ-loop
+loop-less c = search needs
+
+-- src/records.rt:162:5
+loop-again : tie.Need-loop-again Inv-loop μ-loop
+loop-again c =
+    let turn = c .before .before in
+    let at = turn .before .before in
+    let answer = c .before .writes-unlisted .ensures in
+    (omega arith, none-more _ _ (at .loop .k) (at .loop .inv .1) (turn .fields-at .ensures) answer (c .if1 .left))
+
+-- src/records.rt:154:1
+returns-2 : tie.Need-returns-2 Inv-loop μ-loop
+unfolding undeclaredWrite
+returns-2 c =
+    let at = c .before in
+    rw (← at .before .before .before .before .set-at .ensures)
+    (none-found _ _ (at .loop .k) (at .loop .inv .1) (at .before .size .ensures) (omega arith) (omega arith))
+
+pub has-undeclared-write-spec : {M : Type 1} → statement M
+has-undeclared-write-spec =
+    tie.close
+    (tie.spec
+    Inv-loop
+    μ-loop
+    set-at-requires
+    shared-slice-read-declared
+    shared-slice-read-size
+    size-requires
+    loop-holds
+    mul-fields-at
+    add-fields-at
+    fields-at-requires
+    writes-unlisted-requires
+    returns
+    add-k
+    loop-less
+    loop-again
+    returns-2)
