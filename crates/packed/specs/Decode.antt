@@ -29,8 +29,8 @@ row action = record { action = action }
 abbrev pub rowAt : List ℕ → ℕ → ActionRow
 rowAt b at = row (actionOf (fieldsAt b at))
 
--- "Byte 0: read count; 1: write count; 2: action count .. Bytes 4–11: four 16-bit read record numbers. 12–19: four write
--- record numbers .. 24–87: four actions of 16 bytes"
+-- "Byte 0: read count; 1: write count; 2: action count .. Bytes 4–11: four 16-bit read record numbers. 12–19: four
+-- write record numbers .. 24–87: four actions of 16 bytes"
 unfoldable pub decode : List ℕ → Transaction
 decode b =
     record {

@@ -29,14 +29,18 @@ actionBytes x = x .kind ∷ 0 ∷ bytesOf 2 (x .r) ++ bytesOf 2 (x .s) ++ 0 ∷ 
 
 -- "four 16-bit .. record numbers"
 unfoldable pub setBytes : List ℕ → List ℕ
-setBytes set = bytesOf 2 (getD set 0 0) ++ bytesOf 2 (getD set 1 0) ++ bytesOf 2 (getD set 2 0) ++ bytesOf 2 (getD set 3 0)
+setBytes set =
+    bytesOf 2 (getD set 0 0)
+    ++ bytesOf 2 (getD set 1 0)
+    ++ bytesOf 2 (getD set 2 0)
+    ++ bytesOf 2 (getD set 3 0)
 
 -- the action in one of the four places
 abbrev pub actionIn : Transaction → ℕ → Action
 actionIn t k = getD (t .actions) k (row Nothing) .action
 
--- "Byte 0: read count; 1: write count; 2: action count, each 0 to 4; 3: zero. Bytes 4–11: four 16-bit read record numbers.
--- 12–19: four write record numbers. 20–23: zero. 24–87: four actions of 16 bytes"
+-- "Byte 0: read count; 1: write count; 2: action count, each 0 to 4; 3: zero. Bytes 4–11: four 16-bit read record
+-- numbers. 12–19: four write record numbers. 20–23: zero. 24–87: four actions of 16 bytes"
 unfoldable pub encode : Transaction → List ℕ
 encode t =
     t .readcount

@@ -39,8 +39,8 @@ pastSet set count =
 abbrev pub wholly : Fields → Bool
 wholly x = eqb (x .kind) 0 && eqb (x .r) 0 && eqb (x .s) 0 && eqb (x .c) 0
 
--- of an action's 16 bytes the second, the seventh and the eighth are zero; within the count "the 'zero field' must hold zero",
--- and past it all are zero: one that must be zero is not
+-- of an action's 16 bytes the second, the seventh and the eighth are zero; within the count "the 'zero field' must hold
+-- zero", and past it all are zero: one that must be zero is not
 unfoldable pub actionNonzero : List ℕ → ℕ → Bool → Bool
 actionNonzero b at within =
     isNonzero (byteAt b (at + 1))

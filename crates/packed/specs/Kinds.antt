@@ -1,4 +1,4 @@
--- The six kinds of action, described once: what an action reads, what it writes, and which of its fields must hold zero.
+-- The six kinds of action, described once: what an action reads, what it writes, which of its fields must hold zero.
 use Prim.Native.Nat.{ℕ}
 use mathlib.Core.List.{List, [], _∷_}
 use lib.ListN.{getD}

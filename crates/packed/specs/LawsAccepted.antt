@@ -80,7 +80,8 @@ kindFaults b =
     ∷ (ltb 3 (byteAt b 2) && kindOutside (byteAt b 72))
     ∷ []
 
--- an action that is not malformed is written as it was read: its fields are those of its meaning, and its spare bytes are zero
+-- an action that is not malformed is written as it was read: its fields are those of its meaning, and its spare bytes
+-- are zero
 pub record Kept (b : List ℕ) (at : ℕ) : Type 0 where
   pub same : fieldsOf (actionOf (fieldsAt b at)) ≡ fieldsAt b at
   pub second : byteAt b (at + 1) ≡ 0

@@ -5,10 +5,13 @@ use mathlib.Core.List.{List, [], _∷_}
 use Rattle.packed.specs.Kinds.{byKind, line, usesOf}
 use Rattle.packed.specs.declared.fields.Fields.{Fields}
 
+abbrev Not : ℕ → ℕ → Type 0
+Not kind number = kind ≡ number → ⊥
+
 -- a kind that is none of the six, as a match on the six leaves it
 abbrev pub Other : ℕ → Type 0
 Other kind =
-    ((((((Unit {0} × (kind ≡ 1 → ⊥)) × (kind ≡ 2 → ⊥)) × (kind ≡ 3 → ⊥)) × (kind ≡ 4 → ⊥)) × (kind ≡ 5 → ⊥)) × (kind ≡ 6 → ⊥))
+    (((((Unit {0} × Not kind 1) × Not kind 2) × Not kind 3) × Not kind 4) × Not kind 5) × Not kind 6
 
 pub other-kind : {A : Type 0} (none set add take copy move floor : A) (kind : ℕ) → Other kind
     → byKind none set add take copy move floor kind ≡ none

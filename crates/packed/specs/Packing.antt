@@ -1,5 +1,5 @@
--- What packing answers, for every input: "packing checks the same, in the same order, on the meaning and the lent buffer's
--- length, and writes only if all pass". A meaning is judged by the bytes that it would write.
+-- What packing answers, for every input: "packing checks the same, in the same order, on the meaning and the lent
+-- buffer's length, and writes only if all pass". A meaning is judged by the bytes that it would write.
 use Prim.Native.Nat.{ℕ}
 use mathlib.Core.Bool.{not}
 use mathlib.Core.List.{List}

@@ -1,6 +1,7 @@
--- The theorems of packed transactions: unpacking and packing are inverse to each other. They speak of the definitions that the
--- functions `unpack` and `pack` are proved to equal. `Bytes` says that a list holds bytes, and `Held` that a meaning is one
--- that code can hold: of what code lends and passes both are true. None is vacuous: `zeros-are-proper` accepts an entry.
+-- The theorems of packed transactions: unpacking and packing are inverse to each other. They speak of the definitions
+-- that the functions `unpack` and `pack` are proved to equal. `Bytes` says that a list holds bytes, and `Held` that a
+-- meaning is one that code can hold: of what code lends and passes both are true. None is vacuous: `zeros-are-proper`
+-- accepts an entry.
 use Prim.Native.Nat.{ℕ}
 use mathlib.Core.Bool.{Bool, true, false, not}
 use mathlib.Core.Path.{_≡_, refl, sym, ap, _∙_}

@@ -3,7 +3,8 @@ ghost use mathlib.Core.Path.{_≡_};
 ghost use Prim.Native.Nat.{_+_, _≤_};
 ghost use lib.ListN.{length};
 ghost use Rattle.packed.specs.Kinds.{usesOf};
-ghost use Rattle.packed.specs.Form.{countAbove, kindOutside, kindsOutside, pastSet, wholly, actionNonzero, nonzero, malformed};
+ghost use Rattle.packed.specs.Form.{countAbove, kindOutside, kindsOutside, malformed};
+ghost use Rattle.packed.specs.Form.{pastSet, wholly, actionNonzero, nonzero};
 use crate::fields;
 use fields::Fields;
 

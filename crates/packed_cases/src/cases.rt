@@ -4,7 +4,7 @@ use packed::Action;
 use packed::ActionRow;
 use packed::Transaction;
 
-// The head of a case: what is asked (1 unpack, 2 pack, 3 an entry of a log), N, the index, and the length of what is lent.
+// The head of a case: what is asked (1 unpack, 2 pack, 3 an entry of a log), N, the index, the length of what is lent.
 pub struct Asked {
     pub what: u8,
     pub n: usize,

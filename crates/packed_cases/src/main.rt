@@ -1,4 +1,5 @@
-// Runs the stored cases of packed transactions and prints each answer on a line. What it has to print is made by the reference.
+// Runs the stored cases of packed transactions and prints each answer on a line. The reference makes what it has to
+// print.
 mod cases;
 mod print;
 

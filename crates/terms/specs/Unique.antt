@@ -24,7 +24,8 @@ pub refuse-unique : (refusal : Refusal) (transaction : ℕ) (a b : Verdict)
     → a ≡ refused refusal transaction → b ≡ refused refusal transaction → a ≡ b
 refuse-unique refusal transaction a b = same
 
-pub verdict-number-unique : (verdict : Verdict) (a b : ℕ) → a ≡ verdictNumber verdict → b ≡ verdictNumber verdict → a ≡ b
+pub verdict-number-unique : (verdict : Verdict) (a b : ℕ)
+    → a ≡ verdictNumber verdict → b ≡ verdictNumber verdict → a ≡ b
 verdict-number-unique verdict a b = same
 
 pub verdict-place-unique : (verdict : Verdict) (a b : ℕ) → a ≡ verdictPlace verdict → b ≡ verdictPlace verdict → a ≡ b

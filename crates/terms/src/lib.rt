@@ -1,4 +1,4 @@
-// The terms that every crate shares: positions and batch numbers, the refusals and their places, and two reserved numbers.
+// The terms that every crate shares: positions and batch numbers, refusals and their places, two reserved numbers.
 mod position;
 mod refusal;
 mod reserved;

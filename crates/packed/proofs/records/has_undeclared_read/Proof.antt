@@ -63,8 +63,9 @@ returns c =
     let turn = c .before .before in
     let at = turn .before .before in
     let answer = c .before .reads-unlisted .ensures in
+    let counted = at .before .size .ensures in
     rw (← at .before .before .before .before .set-at .ensures)
-    (found _ _ (at .loop .k) (at .before .size .ensures) (omega arith) (turn .fields-at .ensures) answer (c .if1 .taken))
+    (found _ _ (at .loop .k) counted (omega arith) (turn .fields-at .ensures) answer (c .if1 .taken))
 
 -- src/records.rt:133:9
 add-k : tie.Need-add-k Inv-loop μ-loop

@@ -35,7 +35,14 @@ set-descends-requires-2 c κs = search needs
 -- src/records.rt:88:1
 returns : tie.Need-returns
 unfolding notAscending
-returns c = rw (c .set-descends2 .ensures, c .before .before .set-at2 .ensures, c .before .before .before .set-descends .ensures, c .before .before .before .before .before .set-at .ensures)
+returns c =
+    let at₀ = c .before .before .before .before .before in
+    rw (
+      c .set-descends2 .ensures,
+      c .before .before .set-at2 .ensures,
+      c .before .before .before .set-descends .ensures,
+      at₀ .set-at .ensures,
+    )
 
 pub is-not-ascending-spec : {M : Type 1} → statement M
 is-not-ascending-spec =

@@ -78,7 +78,8 @@ returns-3 c =
 -- src/unpacking.rt:29:8
 has-undeclared-read-requires : tie.Need-has-undeclared-read-requires
 has-undeclared-read-requires c κs =
-    (search needs, few-actions _ (sym (c .before .before .before .before .before .is-malformed .ensures) ∙ c .before .before .before .before .if1 .left))
+    let formed = c .before .before .before .before in
+    (search needs, few-actions _ (sym (formed .before .is-malformed .ensures) ∙ formed .if1 .left))
 
 -- src/unpacking.rt:30:9
 refuse-requires-4 : tie.Need-refuse-requires-4
@@ -103,7 +104,8 @@ returns-4 c =
 -- src/unpacking.rt:32:8
 has-undeclared-write-requires : tie.Need-has-undeclared-write-requires
 has-undeclared-write-requires c κs =
-    (search needs, few-actions _ (sym (c .before .before .before .before .before .before .before .is-malformed .ensures) ∙ c .before .before .before .before .before .before .if1 .left))
+    let formed = c .before .before .before .before .before .before in
+    (search needs, few-actions _ (sym (formed .before .is-malformed .ensures) ∙ formed .if1 .left))
 
 -- src/unpacking.rt:33:9
 refuse-requires-5 : tie.Need-refuse-requires-5
