@@ -1,6 +1,9 @@
+// Unpacks every entry of a file and prints the sum of all that the meanings hold, so that nothing of a meaning can be left
+// out. bench/unpack counts its instructions beside those of the same work in C.
 use packed::Action;
 use packed::ActionRow;
 use packed::Transaction;
+use packed::Unpacked;
 use terms::Verdict;
 
 fn sum(a: u64, b: u64) -> u64 {
@@ -41,25 +44,33 @@ fn tally(t: Transaction) -> u64 {
     sum(sum(counts, sets), sum(first, second))
 }
 
-fn main() {
-    let fd = os::open_read(b"entries.bin");
-    let mut buf = io::large_buffer();
-    let got = io::read_full(fd, &mut buf);
+// What one entry adds: all that it holds, or 1 where it is refused.
+fn weight(unpacked: Unpacked) -> u64 {
+    let verdict = unpacked.verdict;
+    match verdict {
+        Verdict::Accepted => tally(unpacked.meaning),
+        Verdict::Refused(_, _) => 1,
+    }
+}
+
+fn total(bytes: &[u8]) -> u64 {
     let mut total: u64 = 0;
     let mut at: usize = 0;
-    while at + 88 <= got {
-        let u = packed::unpack(&buf[at..at + 88], 1024);
-        let v = u.verdict;
-        match v {
-            Verdict::Accepted => {
-                total = sum(total, tally(u.meaning));
-            }
-            Verdict::Refused(_, _) => {
-                total = sum(total, 1);
-            }
+    while at < bytes.len() {
+        if bytes.len() - at < 88 {
+            return total;
         }
+        total = sum(total, weight(packed::unpack(&bytes[at..at + 88], 1024)));
         at += 88;
     }
-    io::print_decimal(1, total);
+    total
+}
+
+fn main() {
+    let file = os::open_read(b"entries.bin");
+    let mut space = io::large_buffer();
+    let got = io::read_full(file, &mut space);
+    libc::close(file);
+    io::print_decimal(1, total(&space[..got]));
     io::write_all(1, b"\n");
 }
