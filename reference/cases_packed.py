@@ -15,15 +15,16 @@ import sys
 from dataclasses import dataclass, replace
 from itertools import combinations
 
-from packed import (ACTION_FIELDS, ACTIONS_AT, ENTRY_LENGTH, KINDS, NOTHING, NUMBER_OF_KIND,
-                    READS_AT, WRITES_AT, Action, Transaction, decode, encode, kind_of, little,
-                    operands, pack, unpack, unpack_at)
+from case_files import (KIND_NAMES, LARGEST_NUMBER, action_of, declaring, every_case,
+                        meaning_record, possible_actions, transaction, write_files)
+from packed import (ACTION_FIELDS, ACTIONS_AT, ENTRY_LENGTH, KINDS, NOTHING, READS_AT, WRITES_AT,
+                    Action, Transaction, decode, encode, kind_of, little, operands, pack, unpack,
+                    unpack_at)
 
 UNPACK, PACK, ENTRY = 1, 2, 3
 CALL_NAMES = {UNPACK: "unpack", PACK: "pack", ENTRY: "entry"}
 BUFFER_BYTE = 0xAA
 LARGEST_RECORD = 65_535
-LARGEST_CONSTANT = 2**64 - 1
 
 
 @dataclass(frozen=True)
@@ -48,17 +49,6 @@ def entry_case(n, log, index):
 
 
 # A case in the case file ----------------------------------------------------
-
-def action_record(action):
-    kind = NUMBER_OF_KIND.get(action.kind, 0)
-    return little(kind, 1) + little(action.r, 2) + little(action.s, 2) + little(action.c, 8)
-
-
-def meaning_record(meaning):
-    counts = bytes([meaning.read_count, meaning.write_count, meaning.action_count])
-    sets = b"".join(little(record, 2) for record in meaning.reads + meaning.writes)
-    return counts + sets + b"".join(action_record(action) for action in meaning.actions)
-
 
 def case_record(case):
     head = little(case.call, 1) + little(case.n, 8) + little(case.index, 8) + little(len(case.lent), 2)
@@ -102,27 +92,6 @@ def answer(case):
 
 # Building blocks ------------------------------------------------------------
 
-def action_of(name, r, s, c):
-    """An action of this kind with those of the three fields that the kind has."""
-    has = operands(KINDS[NUMBER_OF_KIND[name]])
-    return Action(name, **{f: v for f, v in (("r", r), ("s", s), ("c", c)) if f in has})
-
-
-def transaction(reads, writes, actions):
-    """A meaning with these sets and actions, filled up with zeros."""
-    def four(items, filler):
-        return tuple(items) + (filler,) * (4 - len(items))
-    return Transaction(len(reads), len(writes), len(actions),
-                       four(reads, 0), four(writes, 0), four(actions, NOTHING))
-
-
-def declaring(actions):
-    """A meaning with these actions and the sets they need, no more."""
-    reads = {getattr(action, f) for action in actions for f in kind_of(action).reads}
-    writes = {getattr(action, f) for action in actions for f in kind_of(action).writes}
-    return transaction(sorted(reads), sorted(writes), actions)
-
-
 def changed(entry, position, value):
     """The entry with one byte changed."""
     return entry[:position] + bytes([value]) + entry[position + 1 :]
@@ -134,12 +103,11 @@ def action_at(k):
 
 
 N = 10
-KIND_NAMES = [kind.name for kind in KINDS.values()]
 READ_FIELDS = [(kind.name, field) for kind in KINDS.values() for field in kind.reads]
 WRITE_FIELDS = [(kind.name, field) for kind in KINDS.values() for field in kind.writes]
 USED_FIELDS = sorted(set(READ_FIELDS + WRITE_FIELDS))
 ZEROS = bytes(ENTRY_LENGTH)
-CONSTANTS = [0, 1, 255, 256, 2**63, LARGEST_CONSTANT, 0x0123456789ABCDEF]
+CONSTANTS = [0, 1, 255, 256, 2**63, LARGEST_NUMBER, 0x0123456789ABCDEF]
 
 # Every count 4; records 1, 2 and 3 are read and written.
 FULL_MEANING = transaction(
@@ -424,7 +392,7 @@ def proper_meanings():
         yield transaction(range(count), range(1020, 1020 + 4 - count), ())
     yield transaction((0, 255, 256, 1023), (1, 257, 512, 1022), (
         Action("set", r=1, c=0x0123456789ABCDEF), Action("copy", r=257, s=255),
-        Action("copy", r=1022, s=1023), Action("floor", r=256, c=LARGEST_CONSTANT)))
+        Action("copy", r=1022, s=1023), Action("floor", r=256, c=LARGEST_NUMBER)))
 
 
 def proper_unpacked():
@@ -564,16 +532,6 @@ def each_kind_in_a_log():
 
 # At random, from a fixed seed -----------------------------------------------
 
-def possible_actions(reads, writes):
-    """Every kind with every choice of r and s that these sets allow, c still 0."""
-    records = sorted({*reads, *writes})
-    actions = {action_of(name, r, s, 0) for name in KIND_NAMES for r in records for s in records}
-    return sorted((action for action in actions
-                   if all(getattr(action, f) in reads for f in kind_of(action).reads)
-                   and all(getattr(action, f) in writes for f in kind_of(action).writes)),
-                  key=lambda action: (action.kind, action.r, action.s))
-
-
 def random_action(chance, possible):
     action = chance.choice(possible)
     return action_of(action.kind, action.r, action.s, chance.getrandbits(chance.choice((4, 16, 64))))
@@ -652,18 +610,8 @@ GENERATORS = (
 
 
 def all_cases():
-    """Every generator's cases in order; one that comes twice is kept once."""
-    return list(dict.fromkeys(case for generator in GENERATORS for case in generator()))
-
-
-def main():
-    data_file, stdout_file = sys.argv[1:]
-    cases = all_cases()
-    with open(data_file, "wb") as file:
-        file.write(b"".join(case_record(case) for case in cases))
-    with open(stdout_file, "w", encoding="ascii", newline="\n") as file:
-        file.writelines(answer(case) + "\n" for case in cases)
+    return every_case(GENERATORS)
 
 
 if __name__ == "__main__":
-    main()
+    write_files(*sys.argv[1:], all_cases(), case_record, answer)

@@ -8,6 +8,7 @@ import unittest
 from itertools import combinations
 
 import cases_packed
+from case_files import MEANING_LENGTH, read_meaning
 from cases_packed import CALL_NAMES, ENTRY, LAYOUTS, N, PACK, UNPACK, Case, all_cases, answer
 from packed import (KINDS, NOTHING, ZERO_MEANING, Action, Transaction, decode, encode,
                     first_refusal, number, pack, unpack, unpack_at)
@@ -156,24 +157,13 @@ def take(data, length):
     return data[:length], data[length:]
 
 
-def read_action(data):
-    kind = KINDS[data[0]].name if data[0] else "nothing"
-    return Action(kind, number(data[1:3]), number(data[3:5]), number(data[5:13]))
-
-
-def read_meaning(data):
-    records = [number(data[3 + 2 * k : 5 + 2 * k]) for k in range(8)]
-    actions = [read_action(data[19 + 13 * k : 32 + 13 * k]) for k in range(4)]
-    return Transaction(*data[0:3], tuple(records[:4]), tuple(records[4:]), tuple(actions))
-
-
 def read_cases(data):
     """The cases of a case file."""
     while data:
         head, data = take(data, 19)
         call, n, index, length = head[0], number(head[1:9]), number(head[9:17]), number(head[17:19])
         if call == PACK:
-            meaning, data = take(data, 71)
+            meaning, data = take(data, MEANING_LENGTH)
             yield Case(call, n, index, bytes([170]) * length, read_meaning(meaning))
         else:
             lent, data = take(data, length)

@@ -1,4 +1,4 @@
--- The meanings that code can hold: what their types say of their numbers. The function `held` proves it of every one.
+-- The meanings that code can hold: what their types say of their numbers. The crate `held` proves it of every one.
 use Prim.Native.Nat.{ℕ, _^_, _<_}
 use mathlib.Core.Path.{_≡_}
 use mathlib.Core.List.{List}

@@ -66,8 +66,8 @@ one-meaning n t u buffer other t-held u-held t-packs u-packs same =
 -- "88 zero bytes are a proper transaction that does nothing", in a store of any size
 pub zeros-are-proper : (n : ℕ) → wrongRecordCount n ≡ false → unpackOf n (replicate 88 0) ≡ unpacked Accepted nothing
 unfolding
-    unpackOf verdictOf entryVerdict malformed nonzero actionNonzero noSuchRecord notAscending undeclaredRead undeclaredWrite
-    someOf usesOf decode actionOf nothing numberIn
+    unpackOf verdictOf entryVerdict malformed nonzero actionNonzero noSuchRecord notAscending undeclaredRead
+    undeclaredWrite someOf usesOf decode actionOf nothing numberIn
 zeros-are-proper n right = rw right
 
 -- it reads nothing, writes nothing and has no action

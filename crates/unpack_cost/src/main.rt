@@ -1,5 +1,5 @@
-// Unpacks every entry of a file and prints the sum of all that the meanings hold, so that nothing of a meaning can be left
-// out. bench/unpack counts its instructions beside those of the same work in C.
+// Unpacks every entry of a file and prints the sum of all that the meanings hold, so that nothing of a meaning can be
+// left out. bench/unpack counts its instructions beside those of the same work in C.
 use packed::Action;
 use packed::ActionRow;
 use packed::Transaction;
