@@ -22,25 +22,38 @@ pub or-true : (a : Bool) → (a || true) ≡ true
 or-true true = refl
 or-true false = refl
 
--- A pass over the actions of an entry that stops at the first of which a test holds. Before it the test holds of none;
+-- true is not false
+pub not-both : {A : Type 0} → true ≡ false → A
+not-both never =
+    let one : _≡_ {A = ℕ} 0 1 = cc in
+    absurd (omega arith)
+
+-- A pass over the actions of an entry that joins the answers of a test, or stops at the first of which it holds. Before
+-- it the test holds of none;
 module _ (test : Fields → Bool) (b : List ℕ) where
   pub none-yet : false ≡ someOf test b 0
   unfolding someOf
   none-yet = refl
 
-  -- after a turn that does not stop it holds of none more;
+  -- a turn joins one answer;
+  pub one-joined : {x : Fields} {so-far answer : Bool} (k : ℕ) → so-far ≡ someOf test b k
+      → x ≡ fieldsAt b (24 + 16 * k) → answer ≡ test x → (so-far || answer) ≡ someOf test b (k + 1)
+  unfolding someOf
+  one-joined k joined read told = rw (add-one k, joined, told, read)
+
+  -- after it all within the count are joined;
+  pub all-joined : {so-far : Bool} {count : ℕ} (k : ℕ) → so-far ≡ someOf test b k
+      → count ≡ byteAt b 2 → k ≤ count → count ≤ k → so-far ≡ someAction test b
+  all-joined k joined counted most least =
+      let all : k ≡ byteAt b 2 = omega arith in
+      joined ∙ ap (someOf test b) all
+
+  -- after a turn that does not stop the test holds of none more;
   pub none-more : {x : Fields} {answer : Bool} (k : ℕ) → false ≡ someOf test b k
       → x ≡ fieldsAt b (24 + 16 * k) → answer ≡ test x → answer ≡ false → false ≡ someOf test b (k + 1)
   unfolding someOf
   none-more k none read told fails =
       rw (add-one k, ← none) (sym (ap test (sym read) ∙ sym told ∙ fails))
-
-  -- at the end it holds of none within the count;
-  pub none-found : {count : ℕ} (k : ℕ) → false ≡ someOf test b k
-      → count ≡ byteAt b 2 → k ≤ count → count ≤ k → false ≡ someAction test b
-  none-found k none counted most least =
-      let all : k ≡ byteAt b 2 = omega arith in
-      none ∙ ap (someOf test b) all
 
   -- where the pass stops, it holds of some.
   found-below : (bound k : ℕ) → k < bound → test (fieldsAt b (24 + 16 * k)) ≡ true → someOf test b bound ≡ true

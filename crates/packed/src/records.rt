@@ -1,5 +1,6 @@
 // Refusals 5 to 8: the records of an entry that is not malformed. An action is judged by the table of kinds.
 ghost use mathlib.Core.Path.{_≡_};
+ghost use mathlib.Core.Bool.{false};
 ghost use Prim.Native.Nat.{_≤_};
 ghost use lib.ListN.{length};
 ghost use Rattle.packed.specs.Fields.{byteAt};
@@ -8,6 +9,12 @@ ghost use Rattle.packed.specs.Records.{descends, notAscending};
 ghost use Rattle.packed.specs.Records.{unlisted, readsUnlisted, undeclaredRead, writesUnlisted, undeclaredWrite};
 use crate::fields;
 use fields::Fields;
+
+// An undeclared record is read; where none is, one is written.
+pub(crate) struct Undeclared {
+    pub read: bool,
+    pub write: bool,
+}
 
 fn size(count: u8) -> usize
     ensures { λ r. ⌜ r ≡ count ⌝ }
@@ -117,24 +124,6 @@ fn reads_unlisted(x: Fields, set: [u16; 4], count: u8) -> bool
     }
 }
 
-// Refusal 7.
-pub(crate) fn has_undeclared_read(b: &[u8]) -> bool
-    requires { ⌜ (length (now b) ≡ 88) × (byteAt (now b) 2 ≤ 4) ⌝ }
-    ensures { λ r. ⌜ r ≡ undeclaredRead (now (b .entry)) ⌝ }
-{
-    let reads = fields::set_at(b, 4);
-    let declared = b[0];
-    let count = size(b[2]);
-    let mut k: usize = 0;
-    while k < count {
-        if reads_unlisted(fields::fields_at(b, 24 + 16 * k), reads, declared) {
-            return true;
-        }
-        k += 1;
-    }
-    false
-}
-
 fn writes_unlisted(x: Fields, set: [u16; 4], count: u8) -> bool
     ensures { λ r. ⌜ r ≡ writesUnlisted set count x ⌝ }
 {
@@ -150,20 +139,24 @@ fn writes_unlisted(x: Fields, set: [u16; 4], count: u8) -> bool
     }
 }
 
-// Refusal 8.
-pub(crate) fn has_undeclared_write(b: &[u8]) -> bool
+// Which of the refusals 7 and 8 comes first: one pass over the actions within the count, which stops at a read.
+pub(crate) fn undeclared_by(b: &[u8]) -> Undeclared
     requires { ⌜ (length (now b) ≡ 88) × (byteAt (now b) 2 ≤ 4) ⌝ }
-    ensures { λ r. ⌜ r ≡ undeclaredWrite (now (b .entry)) ⌝ }
+    ensures { λ r. ⌜ (r .read ≡ undeclaredRead (now (b .entry)))
+        × (r .read ≡ false → r .write ≡ undeclaredWrite (now (b .entry))) ⌝ }
 {
+    let reads = fields::set_at(b, 4);
     let writes = fields::set_at(b, 12);
-    let declared = b[1];
     let count = size(b[2]);
+    let mut write = false;
     let mut k: usize = 0;
     while k < count {
-        if writes_unlisted(fields::fields_at(b, 24 + 16 * k), writes, declared) {
-            return true;
+        let x = fields::fields_at(b, 24 + 16 * k);
+        if reads_unlisted(x, reads, b[0]) {
+            return Undeclared { read: true, write };
         }
+        write = write | writes_unlisted(x, writes, b[1]);
         k += 1;
     }
-    false
+    Undeclared { read: false, write }
 }

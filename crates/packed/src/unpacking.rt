@@ -26,10 +26,11 @@ pub(crate) fn entry_verdict(b: &[u8], n: usize, index: usize) -> Verdict
     if records::is_not_ascending(b) {
         return Verdict::refuse(Refusal::NotAscending, index);
     }
-    if records::has_undeclared_read(b) {
+    let undeclared = records::undeclared_by(b);
+    if undeclared.read {
         return Verdict::refuse(Refusal::UndeclaredRead, index);
     }
-    if records::has_undeclared_write(b) {
+    if undeclared.write {
         return Verdict::refuse(Refusal::UndeclaredWrite, index);
     }
     Verdict::Accepted

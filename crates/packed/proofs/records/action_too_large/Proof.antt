@@ -2,7 +2,7 @@ use Prim.Native.Nat.{_≤_, _-_}
 use mathlib.Core.Bool.{false}
 use mathlib.Core.Path.{_≡_}
 use Rattle.packed.specs.Records.{someOf, usesTooLarge}
-use Rattle.packed.specs.LawsRecords.{none-yet, none-more, none-found, found}
+use Rattle.packed.specs.LawsRecords.{none-yet, none-more, all-joined, found}
 use borrow.Author.Needs.{needs}
 use native.Mathlib.Omega.{arith}
 use Rattle.packed.proofs.records.action_too_large.Statement.{statement}
@@ -75,7 +75,7 @@ loop-again c =
 returns-2 : tie.Need-returns-2 Inv-loop μ-loop
 returns-2 c =
     let at = c .before in
-    none-found _ _ (at .loop .k) (at .loop .inv .1) (at .before .size .ensures) (omega arith) (omega arith)
+    all-joined _ _ (at .loop .k) (at .loop .inv .1) (at .before .size .ensures) (omega arith) (omega arith)
 
 pub action-too-large-spec : {M : Type 1} → statement M
 action-too-large-spec =

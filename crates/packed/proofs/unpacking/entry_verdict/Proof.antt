@@ -9,9 +9,8 @@ use Rattle.packed.proofs.unpacking.entry_verdict.Reads as reads
 use Rattle.packed.proofs.unpacking.entry_verdict.Lts as lts
 use Rattle.packed.proofs.form.is_malformed.Reads as is-malformed-reads
 use Rattle.packed.proofs.records.has_no_such_record.Reads as has-no-such-record-reads
-use Rattle.packed.proofs.records.has_undeclared_read.Reads as has-undeclared-read-reads
-use Rattle.packed.proofs.records.has_undeclared_write.Reads as has-undeclared-write-reads
 use Rattle.packed.proofs.records.is_not_ascending.Reads as is-not-ascending-reads
+use Rattle.packed.proofs.records.undeclared_by.Reads as undeclared-by-reads
 use Rattle.terms.proofs.refusal.Verdict.refuse.Reads as refuse-reads
 
 -- src/unpacking.rt:20:8
@@ -26,11 +25,7 @@ refuse-requires c κs = search needs
 returns : tie.Need-returns
 unfolding entryVerdict
 returns c =
-    rw (
-      c .refuse .ensures,
-      ← c .before .before .is-malformed .ensures,
-      c .before .if1 .taken,
-    )
+    rw (c .refuse .ensures, ← c .before .before .is-malformed .ensures, c .before .if1 .taken)
 
 -- src/unpacking.rt:23:8
 has-no-such-record-requires : tie.Need-has-no-such-record-requires
@@ -45,9 +40,10 @@ refuse-requires-2 c κs = search needs
 returns-2 : tie.Need-returns-2
 unfolding entryVerdict
 returns-2 c =
+    let at₁ = c .before .before .before .before in
     rw (
       c .refuse2 .ensures,
-      ← c .before .before .before .before .is-malformed .ensures,
+      ← at₁ .is-malformed .ensures,
       c .before .before .before .if1 .left,
       ← c .before .before .has-no-such-record .ensures,
       c .before .if2 .taken,
@@ -65,67 +61,68 @@ refuse-requires-3 c κs = search needs
 returns-3 : tie.Need-returns-3
 unfolding entryVerdict
 returns-3 c =
+    let at₁ = c .before .before .before .before in
     rw (
       c .refuse3 .ensures,
-      ← c .before .before .before .before .before .before .is-malformed .ensures,
-      c .before .before .before .before .before .if1 .left,
-      ← c .before .before .before .before .has-no-such-record .ensures,
+      ← at₁ .before .before .is-malformed .ensures,
+      at₁ .before .if1 .left,
+      ← at₁ .has-no-such-record .ensures,
       c .before .before .before .if2 .left,
       ← c .before .before .is-not-ascending .ensures,
       c .before .if3 .taken,
     )
 
--- src/unpacking.rt:29:8
-has-undeclared-read-requires : tie.Need-has-undeclared-read-requires
-has-undeclared-read-requires c κs =
+-- src/unpacking.rt:29:9
+undeclared-by-requires : tie.Need-undeclared-by-requires
+undeclared-by-requires c κs =
     let formed = c .before .before .before .before in
     (search needs, few-actions _ (sym (formed .before .is-malformed .ensures) ∙ formed .if1 .left))
 
--- src/unpacking.rt:30:9
+-- src/unpacking.rt:31:9
 refuse-requires-4 : tie.Need-refuse-requires-4
 refuse-requires-4 c κs = search needs
 
--- src/unpacking.rt:30:9
+-- src/unpacking.rt:31:9
 returns-4 : tie.Need-returns-4
 unfolding entryVerdict
 returns-4 c =
+    let declared = c .before .before in
+    let order = declared .before in
+    let formed = order .before .before .before .before in
     rw (
       c .refuse4 .ensures,
-      ← c .before .before .before .before .before .before .before .before .is-malformed .ensures,
-      c .before .before .before .before .before .before .before .if1 .left,
-      ← c .before .before .before .before .before .before .has-no-such-record .ensures,
-      c .before .before .before .before .before .if2 .left,
-      ← c .before .before .before .before .is-not-ascending .ensures,
-      c .before .before .before .if3 .left,
-      ← c .before .before .has-undeclared-read .ensures,
+      ← formed .before .is-malformed .ensures,
+      formed .if1 .left,
+      ← order .before .before .before .has-no-such-record .ensures,
+      order .before .before .if2 .left,
+      ← order .before .is-not-ascending .ensures,
+      order .if3 .left,
+      ← declared .undeclared-by .ensures .0,
       c .before .if4 .taken,
     )
 
--- src/unpacking.rt:32:8
-has-undeclared-write-requires : tie.Need-has-undeclared-write-requires
-has-undeclared-write-requires c κs =
-    let formed = c .before .before .before .before .before .before in
-    (search needs, few-actions _ (sym (formed .before .is-malformed .ensures) ∙ formed .if1 .left))
-
--- src/unpacking.rt:33:9
+-- src/unpacking.rt:34:9
 refuse-requires-5 : tie.Need-refuse-requires-5
 refuse-requires-5 c κs = search needs
 
--- src/unpacking.rt:33:9
+-- src/unpacking.rt:34:9
 returns-5 : tie.Need-returns-5
 unfolding entryVerdict
 returns-5 c =
+    let declared = c .before .before .before in
+    let order = declared .before in
+    let formed = order .before .before .before .before in
     rw (
       c .refuse5 .ensures,
-      ← c .before .before .before .before .before .before .before .before .before .before .is-malformed .ensures,
-      c .before .before .before .before .before .before .before .before .before .if1 .left,
-      ← c .before .before .before .before .before .before .before .before .has-no-such-record .ensures,
-      c .before .before .before .before .before .before .before .if2 .left,
-      ← c .before .before .before .before .before .before .is-not-ascending .ensures,
-      c .before .before .before .before .before .if3 .left,
-      ← c .before .before .before .before .has-undeclared-read .ensures,
-      c .before .before .before .if4 .left,
-      ← c .before .before .has-undeclared-write .ensures,
+      ← formed .before .is-malformed .ensures,
+      formed .if1 .left,
+      ← order .before .before .before .has-no-such-record .ensures,
+      order .before .before .if2 .left,
+      ← order .before .is-not-ascending .ensures,
+      order .if3 .left,
+      ← declared .undeclared-by .ensures .0,
+      c .before .before .if4 .left,
+      ← declared .undeclared-by .ensures .1 (c .before .before .if4 .left),
       c .before .if5 .taken,
     )
 
@@ -133,16 +130,19 @@ returns-5 c =
 returns-6 : tie.Need-returns-6
 unfolding entryVerdict
 returns-6 c =
+    let declared = c .before .before in
+    let order = declared .before in
+    let formed = order .before .before .before .before in
     rw (
-      ← c .before .before .before .before .before .before .before .before .before .is-malformed .ensures,
-      c .before .before .before .before .before .before .before .before .if1 .left,
-      ← c .before .before .before .before .before .before .before .has-no-such-record .ensures,
-      c .before .before .before .before .before .before .if2 .left,
-      ← c .before .before .before .before .before .is-not-ascending .ensures,
-      c .before .before .before .before .if3 .left,
-      ← c .before .before .before .has-undeclared-read .ensures,
-      c .before .before .if4 .left,
-      ← c .before .has-undeclared-write .ensures,
+      ← formed .before .is-malformed .ensures,
+      formed .if1 .left,
+      ← order .before .before .before .has-no-such-record .ensures,
+      order .before .before .if2 .left,
+      ← order .before .is-not-ascending .ensures,
+      order .if3 .left,
+      ← declared .undeclared-by .ensures .0,
+      c .before .if4 .left,
+      ← declared .undeclared-by .ensures .1 (c .before .if4 .left),
       c .if5 .left,
     )
 
@@ -159,10 +159,9 @@ entry-verdict-spec =
     is-not-ascending-requires
     refuse-requires-3
     returns-3
-    has-undeclared-read-requires
+    undeclared-by-requires
     refuse-requires-4
     returns-4
-    has-undeclared-write-requires
     refuse-requires-5
     returns-5
     returns-6)
