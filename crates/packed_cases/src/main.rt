@@ -56,7 +56,7 @@ fn meaning_case(file: i32, lent: &mut [u8], asked: Asked) -> bool {
     if got < 71 {
         return false;
     }
-    pack_case(cases::meaning(bytes), lent, asked);
+    pack_case(case_files::meaning(bytes), lent, asked);
     true
 }
 

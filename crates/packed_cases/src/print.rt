@@ -1,48 +1,40 @@
 // The answers as lines.
+use case_files::print_number;
+use case_files::print_text;
 use packed::Action;
 use packed::ActionRow;
 use packed::Unpacked;
 use terms::Verdict;
 
-fn text(bytes: &[u8]) {
-    io::write_all(1, bytes);
-}
-
-// A space and a number.
-fn number(value: u64) {
-    text(b" ");
-    io::print_decimal(1, value);
-}
-
 // The answer, the paper's number and the place.
 pub(crate) fn verdict(v: Verdict) {
     match v {
-        Verdict::Accepted => text(b"accepted"),
-        Verdict::Refused(_, _) => text(b"refused"),
+        Verdict::Accepted => print_text(b"accepted"),
+        Verdict::Refused(_, _) => print_text(b"refused"),
     }
-    number(v.number() as u64);
-    number(v.place() as u64);
+    print_number(v.number() as u64);
+    print_number(v.place() as u64);
 }
 
 fn set(records: [u16; 4]) {
-    text(b" :");
-    number(records[0] as u64);
-    number(records[1] as u64);
-    number(records[2] as u64);
-    number(records[3] as u64);
+    print_text(b" :");
+    print_number(records[0] as u64);
+    print_number(records[1] as u64);
+    print_number(records[2] as u64);
+    print_number(records[3] as u64);
 }
 
 fn named(name: &[u8], first: u16, second: u64) {
-    text(name);
-    number(first as u64);
-    number(second);
+    print_text(name);
+    print_number(first as u64);
+    print_number(second);
 }
 
 fn row(x: ActionRow) {
-    text(b" : ");
+    print_text(b" : ");
     let action = x.action;
     match action {
-        Action::Nothing => text(b"nothing"),
+        Action::Nothing => print_text(b"nothing"),
         Action::Set { r, c } => named(b"set", r, c),
         Action::Add { r, c } => named(b"add", r, c),
         Action::Take { r, c } => named(b"take", r, c),
@@ -57,9 +49,9 @@ pub(crate) fn unpacked(u: Unpacked) {
     let v = u.verdict;
     verdict(v);
     let m = u.meaning;
-    number(m.readcount as u64);
-    number(m.writecount as u64);
-    number(m.actioncount as u64);
+    print_number(m.readcount as u64);
+    print_number(m.writecount as u64);
+    print_number(m.actioncount as u64);
     let reads = m.reads;
     set(reads);
     let writes = m.writes;
@@ -69,7 +61,7 @@ pub(crate) fn unpacked(u: Unpacked) {
     row(actions[1]);
     row(actions[2]);
     row(actions[3]);
-    text(b"\n");
+    print_text(b"\n");
 }
 
 fn byte(value: u8) {
@@ -78,7 +70,7 @@ fn byte(value: u8) {
 
 fn dash_if(none: bool) {
     if none {
-        text(b"-");
+        print_text(b"-");
     }
 }
 
