@@ -1,0 +1,14 @@
+pub mod Answers
+pub mod Claim
+pub mod Counting
+pub mod LawsClaim
+pub mod LawsCounting
+pub mod LawsMake
+pub mod LawsRange
+pub mod Make
+pub mod Moment
+pub mod Range
+pub mod Rows
+pub mod States
+pub mod Unique
+pub mod Workers
