@@ -15,7 +15,7 @@ pub record Uses : Type 0 where
   pub zero : ℕ
 
 abbrev pub line : List ℕ → List ℕ → ℕ → Uses
-line reads writes zero = record { reads = reads; writes = writes; zero = zero }
+line reads writes field = record { reads = reads; writes = writes; zero = field }
 
 -- | kind | reads | writes | zero field |
 unfoldable pub usesOf : Fields → Uses
