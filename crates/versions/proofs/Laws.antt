@@ -1,0 +1,6 @@
+pub mod Callee
+pub mod Calls
+pub mod Chain
+pub mod Clear
+pub mod Lists
+pub mod Tests

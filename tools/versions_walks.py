@@ -1,0 +1,139 @@
+# What tools/callee.py and tools/straight.py need to know of the crate `versions`. After a change of its code:
+#   rt mir versions > MIR; python3 tools/callee.py tools/versions_walks.py > crates/versions/proofs/Laws/Calls.antt;
+#   for each FN of FUNCS: python3 tools/straight.py tools/versions_walks.py MIR FN > (its Proof.antt);
+#   python3 tools/wrap.py on what was written; rt fmt
+HERE = 'Rattle.versions.proofs.Laws.Calls'
+TYPES = {
+    'u64': ('num', 'u64', 'w64'), 'usize': ('num', 'usize', 'w64'), 'u16': ('num', 'u16', 'w16'), 'bool': ('bool',),
+    'Version': ('struct', 'Version', 'T', [('begin', 'u64'), ('end', 'u64'), ('previous', 'u16'), ('contents', 'u64'),
+                                           ('produced', 'bool')]),
+    'Link': ('struct', 'Link', 'L', [('slot', 'usize'), ('position', 'u64'), ('previous', 'u16')]),
+    'Fill': ('struct', 'Fill', 'F', [('slot', 'usize'), ('contents', 'u64')]),
+    'Walking': ('struct', 'Walking', 'K', [('slot', 'u16'), ('limit', 'usize'), ('at', 'u64'), ('going', 'bool')]),
+    'Walked': ('enum', 'Walked', 'E'),
+}
+USES = '''use Rattle.versions.specs.declared.Version.{Version}
+use Rattle.versions.specs.declared.plan.Fill.{Fill}
+use Rattle.versions.specs.declared.plan.Link.{Link}
+use Rattle.versions.specs.declared.chain.Walking.{Walking}
+use Rattle.versions.specs.declared.chain.Walked.{Walked}
+use Rattle.versions.specs.Entry.{emptyEntry, linkedOf, endedOf, filledOf}
+use Rattle.versions.specs.Table.{entryOf, putOf, clearOf, lesserOf}
+use Rattle.versions.specs.Step.{precedingOf, linkOf, fillOf}
+use Rattle.versions.specs.Chain.{walkOf as walkedOf}
+use Rattle.versions.specs.Follow.{startOf, steppedOf, followOf, answerOf}
+use Rattle.versions.specs.Seal.{slotOf, soundOn, soundBelow, newestSoundOf, takeOf, collectBelow}
+use Rattle.versions.specs.Seal.{collectOf}
+use Rattle.versions.proofs.Version as T
+use Rattle.versions.proofs.Version.Laws as T′
+use Rattle.versions.proofs.plan.Link as L
+use Rattle.versions.proofs.plan.Link.Laws as L′
+use Rattle.versions.proofs.plan.Fill as F
+use Rattle.versions.proofs.plan.Fill.Laws as F′
+use Rattle.versions.proofs.chain.Walking as K
+use Rattle.versions.proofs.chain.Walking.Laws as K′
+use Rattle.versions.proofs.chain.Walked as E
+use Rattle.versions.proofs.chain.Walked.Laws as E′'''
+CALLEES = [
+    dict(fn='empty', name='Empty', at='entry.empty', params=[], ret='Version', facts=[('r', 'emptyEntry')]),
+    dict(fn='ended', name='Ended', at='entry.ended', params=[('old', 'Version'), ('position', 'u64')], ret='Version',
+         facts=[('r', 'endedOf old position')]),
+    dict(fn='linked', name='Linked', at='entry.linked',
+         params=[('old', 'Version'), ('position', 'u64'), ('newest', 'u16')], ret='Version',
+         facts=[('r', 'linkedOf old position newest')]),
+    dict(fn='filled', name='Filled', at='entry.filled', params=[('old', 'Version'), ('new', 'u64')], ret='Version',
+         facts=[('r', 'filledOf old new')]),
+    dict(fn='lesser', name='Lesser', at='table.lesser', params=[('this', 'usize'), ('that', 'usize')], ret='usize',
+         facts=[('r', 'lesserOf this that')]),
+    dict(fn='entry-at', name='EntryAt', at='table.entry_at', params=[('versions', 'shr Version'), ('slot', 'usize')],
+         ret='Version', facts=[('r', 'entryOf versions slot')]),
+    dict(fn='put-at', name='PutAt', at='table.put_at',
+         params=[('versions', 'mut Version'), ('slot', 'usize'), ('version', 'Version')], ret=None,
+         facts=[('versions', 'putOf versions slot version')]),
+    dict(fn='preceding', name='Preceding', at='step.preceding', ret='usize',
+         params=[('plan', 'Link'), ('size', 'usize')], facts=[('r', 'precedingOf plan size')]),
+    dict(fn='start', name='Start', at='chain.start',
+         params=[('newest', 'u16'), ('bound', 'usize'), ('size', 'usize'), ('position', 'u64')], ret='Walking',
+         facts=[('r', 'startOf newest bound size position')]),
+    dict(fn='follow', name='Follow', at='chain.follow', params=[('versions', 'shr Version'), ('walk', 'Walking')],
+         ret='Walking', facts=[('r', 'followOf versions walk')]),
+    dict(fn='answer', name='Answer', at='chain.answer', ret='Walked',
+         params=[('walk', 'Walking'), ('version', 'Version')], facts=[('r', 'answerOf walk version')]),
+    dict(fn='slot-at', name='SlotAt', at='seal.slot_at', params=[('newest', 'shr u16'), ('number', 'usize')], ret='u16',
+         facts=[('r', 'slotOf newest number')]),
+    dict(fn='sound-on', name='SoundOn', at='seal.sound_on',
+         params=[('sound', 'bool'), ('slot', 'u16'), ('version', 'Version'), ('limit', 'usize')], ret='bool',
+         facts=[('r', 'soundOn sound slot version limit')]),
+    dict(fn='take', name='Take', at='seal.take',
+         params=[('records', 'mut u64'), ('number', 'usize'), ('slot', 'u16'), ('version', 'Version'), ('on', 'bool')],
+         ret=None, facts=[('records', 'takeOf records number slot version on')]),
+]
+for c in CALLEES:
+    c['path'] = ('Rattle.versions.proofs.' + c['at'],
+                 'calls-versions·' + c['at'].replace('.', '·').replace('_', '-'))
+    c['made'] = HERE
+
+# What the crate offers to walks of other crates: a SPEC there adds these to its CALLEES, with `made` the module of its
+# own facts, and has in its USES the definitions and types that they name, from Rattle.versions.
+OFFERED = [
+    dict(fn='link', name='LinkCall', params=[('versions', 'mut Version'), ('plan', 'Link')], ret=None,
+         facts=[('versions', 'linkOf versions plan')]),
+    dict(fn='fill', name='FillCall', params=[('versions', 'mut Version'), ('plan', 'Fill')], ret=None,
+         facts=[('versions', 'fillOf versions plan')]),
+    dict(fn='clear', name='ClearCall', params=[('versions', 'mut Version'), ('count', 'usize')], ret=None,
+         facts=[('versions', 'clearOf versions count')]),
+    dict(fn='walk', name='WalkCall', ret='Walked',
+         params=[('versions', 'shr Version'), ('newest', 'u16'), ('bound', 'usize'), ('position', 'u64')],
+         facts=[('r', 'walkedOf versions newest bound position')]),
+    dict(fn='newest-sound', name='NewestSoundCall', ret='bool',
+         params=[('versions', 'shr Version'), ('newest', 'shr u16'), ('bound', 'usize')],
+         facts=[('r', 'newestSoundOf versions newest bound')]),
+    dict(fn='collect', name='CollectCall', ret=None,
+         params=[('versions', 'shr Version'), ('newest', 'shr u16'), ('records', 'mut u64'), ('on', 'bool')],
+         facts=[('records', 'collectOf versions newest records on')]),
+    dict(fn='entry-at', name='EntryAtCall', params=[('versions', 'shr Version'), ('slot', 'usize')], ret='Version',
+         facts=[('r', 'entryOf versions slot')]),
+    dict(fn='put-at', name='PutAtCall', ret=None,
+         params=[('versions', 'mut Version'), ('slot', 'usize'), ('version', 'Version')],
+         facts=[('versions', 'putOf versions slot version')]),
+]
+for c in OFFERED:
+    c['path'] = ('Rattle.versions.proofs.' + c['fn'].replace('-', '_'), 'calls-versions·' + c['fn'])
+
+FUNCS = {
+    'fill': dict(mir='versions::step::fill', path='step.fill', params=[('versions', 'mut Version'), ('plan', 'Fill')],
+                 facts=[('versions', 'fillOf versions plan')], calls=['entry-at', 'filled', 'put-at']),
+    'link': dict(mir='versions::step::link', path='step.link', params=[('versions', 'mut Version'), ('plan', 'Link')],
+                 facts=[('versions', 'linkOf versions plan')],
+                 calls=['preceding', 'entry-at', 'ended', 'put-at', 'entry-at', 'linked', 'put-at']),
+    'walk': dict(mir='versions::chain::walk', path='chain.walk', ret='Walked',
+                 params=[('versions', 'shr Version'), ('newest', 'u16'), ('bound', 'usize'), ('position', 'u64')],
+                 facts=[('r', 'walkedOf versions newest bound position')],
+                 exit=['walk-is versions newest bound position'],
+                 uses=['Rattle.versions.proofs.Laws.Chain.{walk-is}'],
+                 calls=['start', 'follow', 'entry-at', 'answer']),
+    'clear': dict(mir='versions::table::clear', path='table.clear',
+                  params=[('versions', 'mut Version'), ('count', 'usize')],
+                  facts=[('versions', 'clearOf versions count')],
+                  exit=['clear-lesser versions count'], calls=['empty', 'lesser', 'put-at'],
+                  uses=['Rattle.versions.specs.LawsTable.{clear-length}',
+                        'Rattle.versions.proofs.Laws.Clear.{clear-step, clear-lesser}'],
+                  loop=dict(index=5, count='lesserOf count m-versions', fits='g-L4',
+                            slices={'versions': ('clearOf versions {i}', 'clear-length versions {i}',
+                                                 'clear-step versions {i}')})),
+    'newest_sound': dict(mir='versions::seal::newest_sound', path='seal.newest_sound', ret='bool',
+                         params=[('versions', 'shr Version'), ('newest', 'shr u16'), ('bound', 'usize')],
+                         facts=[('r', 'newestSoundOf versions newest bound')],
+                         calls=['lesser', 'slot-at', 'entry-at', 'sound-on'],
+                         loop=dict(index=6, count='m-newest', fits='room-newest .0',
+                                   locals={5: 'soundBelow versions newest (lesserOf bound m-versions) {i}'})),
+    'collect': dict(mir='versions::seal::collect', path='seal.collect',
+                    params=[('versions', 'shr Version'), ('newest', 'shr u16'), ('records', 'mut u64'), ('on', 'bool')],
+                    facts=[('records', 'collectOf versions newest records on')], calls=['slot-at', 'entry-at', 'take'],
+                    uses=['Rattle.versions.specs.LawsSeal.{collect-below-length}'],
+                    loop=dict(index=5, count='m-records', fits='room-records .0',
+                              slices={'records': ('collectBelow versions newest records on {i}',
+                                                  'collect-below-length versions newest records on {i}', 'refl')})),
+}
+for f in FUNCS.values():
+    f['crate'] = 'versions'
