@@ -6,7 +6,7 @@ ghost use Rattle.versions.specs.Table.{entryOf, putOf, clearOf, lesserOf
 use crate::Version;
 
 // The entry at a slot of the table.
-pub fn entry(versions: &[Version], slot: usize) -> Version
+pub(crate) fn entry(versions: &[Version], slot: usize) -> Version
     requires { ⌜ slot < length (now versions) ⌝ }
     ensures { λ r. ⌜ r ≡ entryOf (now (versions .entry)) slot ⌝ }
 {
@@ -14,7 +14,7 @@ pub fn entry(versions: &[Version], slot: usize) -> Version
 }
 
 // Stores an entry at a slot of the table.
-pub fn put(versions: &mut [Version], slot: usize, version: Version)
+pub(crate) fn put(versions: &mut [Version], slot: usize, version: Version)
     requires { ⌜ slot < length (now versions) ⌝ }
     ensures { λ _. ⌜ now (versions .exit) ≡ putOf (now (versions .entry)) slot version ⌝ }
 {
