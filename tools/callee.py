@@ -1,7 +1,8 @@
 #!/usr/bin/env python3
 # Writes what a walk by hand needs of each callee: its contract, what it is handed, that its `pre` holds, and what its
 # `post` says.
-# usage: python3 tools/callee.py SPEC > FACTS.antt, where SPEC is a Python file as tools/versions_walks.py, with HERE
+# usage: python3 tools/callee.py SPEC [MODULE] > FACTS.antt, for the callees whose facts are made in MODULE (or HERE).
+# SPEC is a Python file as tools/versions_walks.py, with HERE
 # (the module of the facts), USES (the crates' modules that the text names), TYPES and CALLEES.
 #   TYPES    name -> ('num', row, width) | ('bool',) | ('struct', name, prefix, fields) | ('enum', name, prefix); with
 #            the prefix T the text has T.the-row, T.the-type, T′.the-laws and T′.the-plain in scope
@@ -264,7 +265,8 @@ def gen(c):
 
 
 if __name__ == '__main__':
-    here = [c for c in spec['CALLEES'] if c['made'] == spec['HERE']]
+    module = sys.argv[2] if len(sys.argv) > 2 else spec['HERE']
+    here = [c for c in spec['CALLEES'] if c['made'] == module]
     print(uses['CALLS'] + '\n' + spec['USES'])
     print('\n'.join('use %s as %s' % (c['path'][0], c['fn']) for c in here) + '\n')
     for c in here:

@@ -1,5 +1,6 @@
 # What tools/callee.py and tools/straight.py need to know of the crate `versions`. After a change of its code:
-#   rt mir versions > MIR; python3 tools/callee.py tools/versions_walks.py > crates/versions/proofs/Laws/Calls.antt;
+#   rt mir versions > MIR; for each FILE of Entry, Table, Step, Chain, Seal: python3 tools/callee.py
+#   tools/versions_walks.py (HERE).FILE > crates/versions/proofs/Laws/Calls/FILE.antt;
 #   for each FN of FUNCS: python3 tools/straight.py tools/versions_walks.py MIR FN > (its Proof.antt);
 #   python3 tools/wrap.py on what was written; rt fmt
 HERE = 'Rattle.versions.proofs.Laws.Calls'
@@ -21,7 +22,7 @@ use Rattle.versions.specs.Entry.{emptyEntry, linkedOf, endedOf, filledOf
 use Rattle.versions.specs.Table.{entryOf, putOf, clearOf, lesserOf}
 use Rattle.versions.specs.Step.{precedingOf, linkOf, fillOf}
 use Rattle.versions.specs.Chain.{walkOf as walkedOf}
-use Rattle.versions.specs.Follow.{startOf, steppedOf, followOf, answerOf}
+use Rattle.versions.specs.LawsFollow.{startOf, steppedOf, followOf, answerOf}
 use Rattle.versions.specs.Seal.{slotOf, soundOn, soundBelow, newestSoundOf, takeOf, collectBelow}
 use Rattle.versions.specs.Seal.{collectOf}
 use Rattle.versions.proofs.Version as T
@@ -71,7 +72,7 @@ CALLEES = [
 for c in CALLEES:
     c['path'] = ('Rattle.versions.proofs.' + c['at'],
                  'calls-versions·' + c['at'].replace('.', '·').replace('_', '-'))
-    c['made'] = HERE
+    c['made'] = HERE + '.' + c['at'].split('.')[0].capitalize()
 
 # What the crate offers to walks of other crates: a SPEC there adds these to its CALLEES, with `made` the module of its
 # own facts, and has in its USES the definitions and types that they name, from Rattle.versions.

@@ -1,17 +1,15 @@
 -- What a transaction decides: "Deciding runs the actions on the values read, choosing outcome, new contents (0 for a
 -- carried write until its carry) and carries." It is defined for every meaning, proper or not, and for all values.
 use Prim.Native.Nat.{ℕ}
-use mathlib.Core.Bool.{Bool, false, _&&_, not, cond}
+use mathlib.Core.Bool.{Bool, false, _&&_, not}
 use mathlib.Core.List.{List, [], _∷_}
 use lib.ListN.{getD}
 use lib.Dec.{ltb}
-use Rattle.packed.specs.declared.Action.{Action}
 use Rattle.packed.specs.declared.Transaction.{Transaction}
-use Rattle.counters.specs.Actions.{Memory, After, goesOn, aborts, abortIf, thenAct, actAll, actionsOf}
+use Rattle.counters.specs.Actions.{After, goesOn, aborts, actAll, actionsOf}
 use Rattle.counters.specs.Working.{setsOf, memoryOf, startOf}
 use Rattle.counters.specs.declared.Decision.{Decision}
 use Rattle.counters.specs.declared.Outcome.the-variants.{Committed, Aborted}
-use Rattle.counters.specs.declared.deciding.Attempt.{Attempt}
 use Rattle.counters.specs.declared.working.WorkingCopy.{WorkingCopy}
 
 -- the actions on the values read
@@ -40,11 +38,3 @@ decisionOf writecount aborts =
 
 unfoldable pub decideOf : Transaction → List ℕ → Decision
 decideOf t values = decisionOf (t .writecount) (workedOf t values)
-
--- what code holds after some actions, and what it means
-abbrev pub attempted : Attempt → After WorkingCopy
-attempted x = abortIf (x .aborted) (goesOn (x .copy))
-
--- one action more, as code takes them: none where it is not within the count
-abbrev pub thenWithin : {M : Type 0} → Memory M → Bool → Action → After M → After M
-thenWithin memory within action after = cond within (thenAct memory action after) after

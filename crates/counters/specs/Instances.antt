@@ -8,6 +8,7 @@ use Rattle.packed.specs.declared.Action.{Action}
 use Rattle.packed.specs.declared.Action.the-variants.{Nothing, Set, Add, Take, Copy, Move, Floor}
 use Rattle.packed.specs.declared.Transaction.{Transaction}
 use Rattle.counters.specs.OneByOne.{valuesOn, changedCopy, Ran, oneByOne}
+use Rattle.counters.specs.Storing.{inFour}
 use Rattle.counters.specs.declared.Outcome.{Outcome}
 use Rattle.counters.specs.declared.Outcome.the-variants.{Committed, Aborted}
 
@@ -20,17 +21,14 @@ abbrev pub AllHold : {Answer : Type 0} → List (Row Answer) → Type 0
 AllHold table = map (λ row. row .given) table ≡ map (λ row. row .said) table
 
 -- a transaction from its reads, its writes and its actions
-abbrev pub inPlaces : List ℕ → List ℕ
-inPlaces set = getD set 0 0 ∷ getD set 1 0 ∷ getD set 2 0 ∷ getD set 3 0 ∷ []
-
 abbrev pub transaction : List ℕ → List ℕ → List Action → Transaction
 transaction reads writes actions =
     record {
       readcount = length reads;
       writecount = length writes;
       actioncount = length actions;
-      reads = inPlaces reads;
-      writes = inPlaces writes;
+      reads = inFour reads;
+      writes = inFour writes;
       actions =
           row (getD actions 0 Nothing)
           ∷ row (getD actions 1 Nothing)

@@ -1,6 +1,6 @@
 -- Laws of actions over any memory.
 use Prim.Native.Nat.{ℕ, zero, suc, _<_, _≤_}
-use mathlib.Core.Bool.{Bool, true, false, _&&_, not}
+use mathlib.Core.Bool.{Bool, true, false, _&&_, not, cond}
 use mathlib.Core.Path.{_≡_, refl}
 use mathlib.Core.List.{[], _∷_}
 use native.Mathlib.Omega.{arith}
@@ -8,8 +8,17 @@ use lib.ListN.{take}
 use lib.Dec.{ltb}
 use borrow.Author.Tests.{lt-ltb, le-ltb}
 use Rattle.packed.specs.declared.Action.{Action}
-use Rattle.counters.specs.Actions.{Memory, After, goesOn, abortIf, act, actAll}
-use Rattle.counters.specs.Deciding.{thenWithin}
+use Rattle.counters.specs.Actions.{Memory, After, goesOn, abortIf, act, thenAct, actAll}
+use Rattle.counters.specs.declared.deciding.Attempt.{Attempt}
+use Rattle.counters.specs.declared.working.WorkingCopy.{WorkingCopy}
+
+-- what code holds after some actions, and what it means
+abbrev pub attempted : Attempt → After WorkingCopy
+attempted x = abortIf (x .aborted) (goesOn (x .copy))
+
+-- one action more, as code takes them: none where it is not within the count
+abbrev pub thenWithin : {M : Type 0} → Memory M → Bool → Action → After M → After M
+thenWithin memory within action after = cond within (thenAct memory action after) after
 
 take-none : (count : ℕ) → take {A = Action} count [] ≡ []
 take-none zero = refl

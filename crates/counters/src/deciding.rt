@@ -2,7 +2,8 @@
 // and carries."
 ghost use mathlib.Core.Path.{_≡_};
 ghost use Rattle.counters.specs.Actions.{goesOn, aborts, act};
-ghost use Rattle.counters.specs.Deciding.{attempted, thenWithin, workedOf, unreached, decideOf};
+ghost use Rattle.counters.specs.Deciding.{workedOf, unreached, decideOf};
+ghost use Rattle.counters.specs.LawsActions.{attempted, thenWithin};
 ghost use Rattle.counters.specs.Working.{memoryOf};
 use crate::Decision;
 use crate::Outcome;

@@ -2,9 +2,9 @@ pub mod Entry
 pub mod Table
 pub mod Step
 pub mod Chain
-pub mod Follow
 pub mod Seal
 pub mod Instances
 pub mod LawsTable
+pub mod LawsFollow
 pub mod LawsSeal
 pub mod Unique

@@ -1,7 +1,7 @@
 // The walk back along a chain of versions.
 ghost use mathlib.Core.Path.{_≡_};
 ghost use Rattle.versions.specs.Chain.{walkOf};
-ghost use Rattle.versions.specs.Follow.{startOf, steppedOf, followOf, answerOf};
+ghost use Rattle.versions.specs.LawsFollow.{startOf, steppedOf, followOf, answerOf};
 use crate::Version;
 use crate::table::entry_at;
 

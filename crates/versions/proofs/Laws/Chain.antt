@@ -11,7 +11,7 @@ use lib.ListN.{length}
 use Rattle.terms.specs.Reserved.{noSlot}
 use Rattle.versions.specs.Table.{entryOf, lesserOf}
 use Rattle.versions.specs.Chain.{atSlot, walkFrom, walkOf}
-use Rattle.versions.specs.Follow.{
+use Rattle.versions.specs.LawsFollow.{
   startOf,
   steppedIf,
   steppedOf,

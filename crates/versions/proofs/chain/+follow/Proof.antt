@@ -112,7 +112,7 @@ use denote.Exit.{yes}
 use Rattle.versions.specs.declared.Version.{Version}
 use Rattle.versions.specs.declared.chain.Walking.{Walking}
 use Rattle.versions.specs.Table.{entryOf}
-use Rattle.versions.specs.Follow.{steppedOf, followOf}
+use Rattle.versions.specs.LawsFollow.{steppedOf, followOf}
 use Rattle.versions.proofs.Version as T
 use Rattle.versions.proofs.Version.Laws as T′
 use Rattle.versions.proofs.chain.Walking as S

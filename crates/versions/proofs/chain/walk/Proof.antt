@@ -59,7 +59,7 @@ use Rattle.versions.specs.Entry.{emptyEntry, linkedOf, endedOf, filledOf
 use Rattle.versions.specs.Table.{entryOf, putOf, clearOf, lesserOf}
 use Rattle.versions.specs.Step.{precedingOf, linkOf, fillOf}
 use Rattle.versions.specs.Chain.{walkOf as walkedOf}
-use Rattle.versions.specs.Follow.{startOf, steppedOf, followOf, answerOf}
+use Rattle.versions.specs.LawsFollow.{startOf, steppedOf, followOf, answerOf}
 use Rattle.versions.specs.Seal.{slotOf, soundOn, soundBelow, newestSoundOf, takeOf, collectBelow}
 use Rattle.versions.specs.Seal.{collectOf}
 use Rattle.versions.proofs.Version as T
@@ -76,19 +76,19 @@ use Rattle.versions.proofs.Laws.Chain.{walk-is}
 use Rattle.versions.proofs.chain.start.Symbol as start-def
 use Rattle.versions.proofs.chain.start.Symbol.{name as #start}
 use Rattle.versions.proofs.chain.start.Met as start-thm
-use Rattle.versions.proofs.Laws.Calls.{Start, to-start, start-said, start-goes, start-gives}
+use Rattle.versions.proofs.Laws.Calls.Chain.{Start, to-start, start-said, start-goes, start-gives}
 use Rattle.versions.proofs.chain.follow.Symbol as follow-def
 use Rattle.versions.proofs.chain.follow.Symbol.{name as #follow}
 use Rattle.versions.proofs.chain.follow.Met as follow-thm
-use Rattle.versions.proofs.Laws.Calls.{Follow, to-follow, follow-said, follow-goes, follow-gives}
+use Rattle.versions.proofs.Laws.Calls.Chain.{Follow, to-follow, follow-said, follow-goes, follow-gives}
 use Rattle.versions.proofs.table.entry_at.Symbol as entry-at-def
 use Rattle.versions.proofs.table.entry_at.Symbol.{name as #entry-at}
 use Rattle.versions.proofs.table.entry_at.Met as entry-at-thm
-use Rattle.versions.proofs.Laws.Calls.{EntryAt, to-entry-at, entry-at-said, entry-at-goes, entry-at-gives}
+use Rattle.versions.proofs.Laws.Calls.Table.{EntryAt, to-entry-at, entry-at-said, entry-at-goes, entry-at-gives}
 use Rattle.versions.proofs.chain.answer.Symbol as answer-def
 use Rattle.versions.proofs.chain.answer.Symbol.{name as #answer}
 use Rattle.versions.proofs.chain.answer.Met as answer-thm
-use Rattle.versions.proofs.Laws.Calls.{Answer, to-answer, answer-said, answer-goes, answer-gives}
+use Rattle.versions.proofs.Laws.Calls.Chain.{Answer, to-answer, answer-said, answer-goes, answer-gives}
 use Rattle.versions.proofs.chain.walk.Key.{name as #own}
 use Rattle.versions.proofs.chain.walk as own
 use Rattle.versions.proofs.chain.walk.Statement as stated

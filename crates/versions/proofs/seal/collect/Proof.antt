@@ -69,7 +69,7 @@ use Rattle.versions.specs.Entry.{emptyEntry, linkedOf, endedOf, filledOf
 use Rattle.versions.specs.Table.{entryOf, putOf, clearOf, lesserOf}
 use Rattle.versions.specs.Step.{precedingOf, linkOf, fillOf}
 use Rattle.versions.specs.Chain.{walkOf as walkedOf}
-use Rattle.versions.specs.Follow.{startOf, steppedOf, followOf, answerOf}
+use Rattle.versions.specs.LawsFollow.{startOf, steppedOf, followOf, answerOf}
 use Rattle.versions.specs.Seal.{slotOf, soundOn, soundBelow, newestSoundOf, takeOf, collectBelow}
 use Rattle.versions.specs.Seal.{collectOf}
 use Rattle.versions.proofs.Version as T
@@ -86,15 +86,15 @@ use Rattle.versions.specs.LawsSeal.{collect-below-length}
 use Rattle.versions.proofs.seal.slot_at.Symbol as slot-at-def
 use Rattle.versions.proofs.seal.slot_at.Symbol.{name as #slot-at}
 use Rattle.versions.proofs.seal.slot_at.Met as slot-at-thm
-use Rattle.versions.proofs.Laws.Calls.{SlotAt, to-slot-at, slot-at-said, slot-at-goes, slot-at-gives}
+use Rattle.versions.proofs.Laws.Calls.Seal.{SlotAt, to-slot-at, slot-at-said, slot-at-goes, slot-at-gives}
 use Rattle.versions.proofs.table.entry_at.Symbol as entry-at-def
 use Rattle.versions.proofs.table.entry_at.Symbol.{name as #entry-at}
 use Rattle.versions.proofs.table.entry_at.Met as entry-at-thm
-use Rattle.versions.proofs.Laws.Calls.{EntryAt, to-entry-at, entry-at-said, entry-at-goes, entry-at-gives}
+use Rattle.versions.proofs.Laws.Calls.Table.{EntryAt, to-entry-at, entry-at-said, entry-at-goes, entry-at-gives}
 use Rattle.versions.proofs.seal.take.Symbol as take-def
 use Rattle.versions.proofs.seal.take.Symbol.{name as #take}
 use Rattle.versions.proofs.seal.take.Met as take-thm
-use Rattle.versions.proofs.Laws.Calls.{Take, to-take, take-said, take-goes, take-gives}
+use Rattle.versions.proofs.Laws.Calls.Seal.{Take, to-take, take-said, take-goes, take-gives}
 use Rattle.versions.proofs.seal.collect.Key.{name as #own}
 use Rattle.versions.proofs.seal.collect as own
 use Rattle.versions.proofs.seal.collect.Statement as stated

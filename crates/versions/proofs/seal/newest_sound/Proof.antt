@@ -69,7 +69,7 @@ use Rattle.versions.specs.Entry.{emptyEntry, linkedOf, endedOf, filledOf
 use Rattle.versions.specs.Table.{entryOf, putOf, clearOf, lesserOf}
 use Rattle.versions.specs.Step.{precedingOf, linkOf, fillOf}
 use Rattle.versions.specs.Chain.{walkOf as walkedOf}
-use Rattle.versions.specs.Follow.{startOf, steppedOf, followOf, answerOf}
+use Rattle.versions.specs.LawsFollow.{startOf, steppedOf, followOf, answerOf}
 use Rattle.versions.specs.Seal.{slotOf, soundOn, soundBelow, newestSoundOf, takeOf, collectBelow}
 use Rattle.versions.specs.Seal.{collectOf}
 use Rattle.versions.proofs.Version as T
@@ -85,19 +85,19 @@ use Rattle.versions.proofs.chain.Walked.Laws as E′
 use Rattle.versions.proofs.table.lesser.Symbol as lesser-def
 use Rattle.versions.proofs.table.lesser.Symbol.{name as #lesser}
 use Rattle.versions.proofs.table.lesser.Met as lesser-thm
-use Rattle.versions.proofs.Laws.Calls.{Lesser, to-lesser, lesser-said, lesser-goes, lesser-gives}
+use Rattle.versions.proofs.Laws.Calls.Table.{Lesser, to-lesser, lesser-said, lesser-goes, lesser-gives}
 use Rattle.versions.proofs.seal.slot_at.Symbol as slot-at-def
 use Rattle.versions.proofs.seal.slot_at.Symbol.{name as #slot-at}
 use Rattle.versions.proofs.seal.slot_at.Met as slot-at-thm
-use Rattle.versions.proofs.Laws.Calls.{SlotAt, to-slot-at, slot-at-said, slot-at-goes, slot-at-gives}
+use Rattle.versions.proofs.Laws.Calls.Seal.{SlotAt, to-slot-at, slot-at-said, slot-at-goes, slot-at-gives}
 use Rattle.versions.proofs.table.entry_at.Symbol as entry-at-def
 use Rattle.versions.proofs.table.entry_at.Symbol.{name as #entry-at}
 use Rattle.versions.proofs.table.entry_at.Met as entry-at-thm
-use Rattle.versions.proofs.Laws.Calls.{EntryAt, to-entry-at, entry-at-said, entry-at-goes, entry-at-gives}
+use Rattle.versions.proofs.Laws.Calls.Table.{EntryAt, to-entry-at, entry-at-said, entry-at-goes, entry-at-gives}
 use Rattle.versions.proofs.seal.sound_on.Symbol as sound-on-def
 use Rattle.versions.proofs.seal.sound_on.Symbol.{name as #sound-on}
 use Rattle.versions.proofs.seal.sound_on.Met as sound-on-thm
-use Rattle.versions.proofs.Laws.Calls.{SoundOn, to-sound-on, sound-on-said, sound-on-goes, sound-on-gives}
+use Rattle.versions.proofs.Laws.Calls.Seal.{SoundOn, to-sound-on, sound-on-said, sound-on-goes, sound-on-gives}
 use Rattle.versions.proofs.seal.newest_sound.Key.{name as #own}
 use Rattle.versions.proofs.seal.newest_sound as own
 use Rattle.versions.proofs.seal.newest_sound.Statement as stated

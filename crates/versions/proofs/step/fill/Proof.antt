@@ -59,7 +59,7 @@ use Rattle.versions.specs.Entry.{emptyEntry, linkedOf, endedOf, filledOf
 use Rattle.versions.specs.Table.{entryOf, putOf, clearOf, lesserOf}
 use Rattle.versions.specs.Step.{precedingOf, linkOf, fillOf}
 use Rattle.versions.specs.Chain.{walkOf as walkedOf}
-use Rattle.versions.specs.Follow.{startOf, steppedOf, followOf, answerOf}
+use Rattle.versions.specs.LawsFollow.{startOf, steppedOf, followOf, answerOf}
 use Rattle.versions.specs.Seal.{slotOf, soundOn, soundBelow, newestSoundOf, takeOf, collectBelow}
 use Rattle.versions.specs.Seal.{collectOf}
 use Rattle.versions.proofs.Version as T
@@ -75,15 +75,15 @@ use Rattle.versions.proofs.chain.Walked.Laws as E′
 use Rattle.versions.proofs.table.entry_at.Symbol as entry-at-def
 use Rattle.versions.proofs.table.entry_at.Symbol.{name as #entry-at}
 use Rattle.versions.proofs.table.entry_at.Met as entry-at-thm
-use Rattle.versions.proofs.Laws.Calls.{EntryAt, to-entry-at, entry-at-said, entry-at-goes, entry-at-gives}
+use Rattle.versions.proofs.Laws.Calls.Table.{EntryAt, to-entry-at, entry-at-said, entry-at-goes, entry-at-gives}
 use Rattle.versions.proofs.entry.filled.Symbol as filled-def
 use Rattle.versions.proofs.entry.filled.Symbol.{name as #filled}
 use Rattle.versions.proofs.entry.filled.Met as filled-thm
-use Rattle.versions.proofs.Laws.Calls.{Filled, to-filled, filled-said, filled-goes, filled-gives}
+use Rattle.versions.proofs.Laws.Calls.Entry.{Filled, to-filled, filled-said, filled-goes, filled-gives}
 use Rattle.versions.proofs.table.put_at.Symbol as put-at-def
 use Rattle.versions.proofs.table.put_at.Symbol.{name as #put-at}
 use Rattle.versions.proofs.table.put_at.Met as put-at-thm
-use Rattle.versions.proofs.Laws.Calls.{PutAt, to-put-at, put-at-said, put-at-goes, put-at-gives}
+use Rattle.versions.proofs.Laws.Calls.Table.{PutAt, to-put-at, put-at-said, put-at-goes, put-at-gives}
 use Rattle.versions.proofs.step.fill.Key.{name as #own}
 use Rattle.versions.proofs.step.fill as own
 use Rattle.versions.proofs.step.fill.Statement as stated

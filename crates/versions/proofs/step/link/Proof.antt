@@ -59,7 +59,7 @@ use Rattle.versions.specs.Entry.{emptyEntry, linkedOf, endedOf, filledOf
 use Rattle.versions.specs.Table.{entryOf, putOf, clearOf, lesserOf}
 use Rattle.versions.specs.Step.{precedingOf, linkOf, fillOf}
 use Rattle.versions.specs.Chain.{walkOf as walkedOf}
-use Rattle.versions.specs.Follow.{startOf, steppedOf, followOf, answerOf}
+use Rattle.versions.specs.LawsFollow.{startOf, steppedOf, followOf, answerOf}
 use Rattle.versions.specs.Seal.{slotOf, soundOn, soundBelow, newestSoundOf, takeOf, collectBelow}
 use Rattle.versions.specs.Seal.{collectOf}
 use Rattle.versions.proofs.Version as T
@@ -75,23 +75,29 @@ use Rattle.versions.proofs.chain.Walked.Laws as E′
 use Rattle.versions.proofs.step.preceding.Symbol as preceding-def
 use Rattle.versions.proofs.step.preceding.Symbol.{name as #preceding}
 use Rattle.versions.proofs.step.preceding.Met as preceding-thm
-use Rattle.versions.proofs.Laws.Calls.{Preceding, to-preceding, preceding-said, preceding-goes, preceding-gives}
+use Rattle.versions.proofs.Laws.Calls.Step.{
+  Preceding,
+  to-preceding,
+  preceding-said,
+  preceding-goes,
+  preceding-gives,
+}
 use Rattle.versions.proofs.table.entry_at.Symbol as entry-at-def
 use Rattle.versions.proofs.table.entry_at.Symbol.{name as #entry-at}
 use Rattle.versions.proofs.table.entry_at.Met as entry-at-thm
-use Rattle.versions.proofs.Laws.Calls.{EntryAt, to-entry-at, entry-at-said, entry-at-goes, entry-at-gives}
+use Rattle.versions.proofs.Laws.Calls.Table.{EntryAt, to-entry-at, entry-at-said, entry-at-goes, entry-at-gives}
 use Rattle.versions.proofs.entry.ended.Symbol as ended-def
 use Rattle.versions.proofs.entry.ended.Symbol.{name as #ended}
 use Rattle.versions.proofs.entry.ended.Met as ended-thm
-use Rattle.versions.proofs.Laws.Calls.{Ended, to-ended, ended-said, ended-goes, ended-gives}
+use Rattle.versions.proofs.Laws.Calls.Entry.{Ended, to-ended, ended-said, ended-goes, ended-gives}
 use Rattle.versions.proofs.table.put_at.Symbol as put-at-def
 use Rattle.versions.proofs.table.put_at.Symbol.{name as #put-at}
 use Rattle.versions.proofs.table.put_at.Met as put-at-thm
-use Rattle.versions.proofs.Laws.Calls.{PutAt, to-put-at, put-at-said, put-at-goes, put-at-gives}
+use Rattle.versions.proofs.Laws.Calls.Table.{PutAt, to-put-at, put-at-said, put-at-goes, put-at-gives}
 use Rattle.versions.proofs.entry.linked.Symbol as linked-def
 use Rattle.versions.proofs.entry.linked.Symbol.{name as #linked}
 use Rattle.versions.proofs.entry.linked.Met as linked-thm
-use Rattle.versions.proofs.Laws.Calls.{Linked, to-linked, linked-said, linked-goes, linked-gives}
+use Rattle.versions.proofs.Laws.Calls.Entry.{Linked, to-linked, linked-said, linked-goes, linked-gives}
 use Rattle.versions.proofs.step.link.Key.{name as #own}
 use Rattle.versions.proofs.step.link as own
 use Rattle.versions.proofs.step.link.Statement as stated

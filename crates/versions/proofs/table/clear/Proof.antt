@@ -69,7 +69,7 @@ use Rattle.versions.specs.Entry.{emptyEntry, linkedOf, endedOf, filledOf
 use Rattle.versions.specs.Table.{entryOf, putOf, clearOf, lesserOf}
 use Rattle.versions.specs.Step.{precedingOf, linkOf, fillOf}
 use Rattle.versions.specs.Chain.{walkOf as walkedOf}
-use Rattle.versions.specs.Follow.{startOf, steppedOf, followOf, answerOf}
+use Rattle.versions.specs.LawsFollow.{startOf, steppedOf, followOf, answerOf}
 use Rattle.versions.specs.Seal.{slotOf, soundOn, soundBelow, newestSoundOf, takeOf, collectBelow}
 use Rattle.versions.specs.Seal.{collectOf}
 use Rattle.versions.proofs.Version as T
@@ -87,15 +87,15 @@ use Rattle.versions.proofs.Laws.Clear.{clear-step, clear-lesser}
 use Rattle.versions.proofs.entry.empty.Symbol as empty-def
 use Rattle.versions.proofs.entry.empty.Symbol.{name as #empty}
 use Rattle.versions.proofs.entry.empty.Met as empty-thm
-use Rattle.versions.proofs.Laws.Calls.{Empty, to-empty, empty-said, empty-goes, empty-gives}
+use Rattle.versions.proofs.Laws.Calls.Entry.{Empty, to-empty, empty-said, empty-goes, empty-gives}
 use Rattle.versions.proofs.table.lesser.Symbol as lesser-def
 use Rattle.versions.proofs.table.lesser.Symbol.{name as #lesser}
 use Rattle.versions.proofs.table.lesser.Met as lesser-thm
-use Rattle.versions.proofs.Laws.Calls.{Lesser, to-lesser, lesser-said, lesser-goes, lesser-gives}
+use Rattle.versions.proofs.Laws.Calls.Table.{Lesser, to-lesser, lesser-said, lesser-goes, lesser-gives}
 use Rattle.versions.proofs.table.put_at.Symbol as put-at-def
 use Rattle.versions.proofs.table.put_at.Symbol.{name as #put-at}
 use Rattle.versions.proofs.table.put_at.Met as put-at-thm
-use Rattle.versions.proofs.Laws.Calls.{PutAt, to-put-at, put-at-said, put-at-goes, put-at-gives}
+use Rattle.versions.proofs.Laws.Calls.Table.{PutAt, to-put-at, put-at-said, put-at-goes, put-at-gives}
 use Rattle.versions.proofs.table.clear.Key.{name as #own}
 use Rattle.versions.proofs.table.clear as own
 use Rattle.versions.proofs.table.clear.Statement as stated
