@@ -6,6 +6,7 @@
 # tools/wrap.py and `rt fmt`. SPEC as for tools/callee.py, with FUNCS:
 #   FUNCS    FN -> dict(mir='versions::step::fill', path='step.fill', crate, params, ret, facts (as of a callee),
 #            calls=[alias of each call, in order], exit=[proof of each fact] where it is not `refl`, uses=[lines])
+#   forget   {number of a call: [locals that are not used after it]}: a large value that is kept costs at every step
 #   CALLEES' entries have path=(module of the function, name of `code.calls-..`) and made=module of the facts
 #   loop     dict(index=local, count=what the index stays below, fits=that this is below 2^64,
 #            slices={param: (its list at turn {i}, that it is as long as at first, that a turn leads to the next)},
@@ -267,6 +268,9 @@ class Walk:
                 x.l[:2] = ['S-' + p, 'T-' + p]
             else:
                 x.l[x.l.index('tk-' + cp)] = 'T-' + p
+        for k in F.get('forget', {}).get(n, []):
+            s.op('forget ! %d refl' % s.pos(k))
+            s.full.discard(k)
         ct = c.get('ret')
         if ct is None:
             s.op('land ! %s' % s.store(dest, '(unit-typed u%d (%s))' % (n, sp(0))))

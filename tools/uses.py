@@ -88,7 +88,7 @@ use Rattle.walks.proofs.Locals.{tyAt, envOf, after}
 use Rattle.walks.proofs.Typed.{num-typed, bool-typed, unit-typed, wider-w8, wider-w16, wider-w32}
 use Rattle.walks.proofs.Value as Value
 use Rattle.walks.proofs.Choice as Choice
-use Rattle.walks.proofs.Loans.{holds, sees, lend-mut, back-mut, lend-shr, back-shr, use4, use6}'''
+use Rattle.walks.proofs.Loans.{holds, sees, lend-mut, back-mut, lend-shr, back-shr, use4, use6, use8, use10}'''
 
 LOOP = '''use Prim.Native.Nat.{suc, _+_, _-_, _≤_, zero-le}
 use native.Mathlib.Nat.{le-antisymm, lt-of-le-of-lt}

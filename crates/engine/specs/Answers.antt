@@ -2,7 +2,10 @@
 use Prim.Native.Nat.{ℕ}
 use mathlib.Core.Bool.{Bool, true, false}
 use Rattle.terms.specs.Refusals.{numberOf, placeOf}
+use Rattle.terms.specs.declared.refusal.Place.{Place}
 use Rattle.terms.specs.declared.refusal.Refusal.{Refusal}
+use Rattle.terms.specs.declared.refusal.Verdict.{Verdict}
+use Rattle.terms.specs.declared.refusal.Verdict.the-variants.{Accepted as Passed, Refused as Fails}
 use Rattle.engine.specs.declared.Answer.{Answer}
 use Rattle.engine.specs.declared.Answer.the-variants.{Accepted, Waits, Refused}
 use Rattle.engine.specs.declared.State.{State}
@@ -38,3 +41,16 @@ accept s = record { answer = Accepted; state = s }
 abbrev pub refuseIf : State → Bool → Refusal → Stepped → Stepped
 refuseIf s true refusal rest = refuse s refusal 0
 refuseIf s false refusal rest = rest
+
+-- a refusal that was found, with its place
+abbrev pub refuseBy : State → Refusal → Place → Stepped
+refuseBy s refusal place = record { answer = Refused refusal place; state = s }
+
+-- checks that come after others
+abbrev pub andThen : Verdict → Verdict → Verdict
+andThen Passed later = later
+andThen (Fails refusal place) later = Fails refusal place
+
+abbrev pub isAccepted : Verdict → Bool
+isAccepted Passed = true
+isAccepted (Fails refusal place) = false

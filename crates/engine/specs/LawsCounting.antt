@@ -1,9 +1,11 @@
 -- Loops that join a test over the numbers below a bound.
-use Prim.Native.Nat.{ℕ, _+_, _≤_}
+use Prim.Native.Nat.{ℕ, zero, suc, _+_, _≤_, _<_}
 use mathlib.Core.Bool.{Bool, false, _||_}
-use mathlib.Core.Path.{_≡_, refl, ap, _∙_}
+use mathlib.Core.Path.{_≡_, refl, ap, _∙_, subst}
+use native.Mathlib.Decide.{decLt}
 use native.Mathlib.Numerals.{add-one}
 use native.Mathlib.Omega.{arith}
+use Rattle.packed.specs.LawsForm.{not-left, not-right}
 use Rattle.engine.specs.Counting.{someBelow}
 
 -- before the loop no number is tested;
@@ -23,3 +25,16 @@ pub all-tested : {so-far : Bool} (test : ℕ → Bool) (bound k : ℕ) → so-fa
 all-tested test bound k tested most least =
     let all : k ≡ bound = omega arith in
     tested ∙ ap (λ n. someBelow n test) all
+
+-- a test that holds of no number below the bound fails for each of them
+pub none-below : (bound : ℕ) (test : ℕ → Bool) → someBelow bound test ≡ false → (k : ℕ) → k < bound → test k ≡ false
+unfolding someBelow
+none-below zero test none k below = absurd (omega (arith, below))
+none-below (suc bound) test none k below =
+    go (none-below bound test (not-left (someBelow bound test) (test bound) none) k) (decLt k bound)
+  where
+    go : (k < bound → test k ≡ false) → Dec (k < bound) → test k ≡ false
+    go earlier (yes before) = earlier before
+    go earlier (no last) =
+        let same : bound ≡ k = omega (arith, below) in
+        subst (λ j. test j ≡ false) same (not-right (someBelow bound test) (test bound) none)

@@ -39,6 +39,21 @@ withWorker s w x =
       crew = set (s .crew) w x;
     }
 
+-- partition p has placed so many
+abbrev pub withPlaced : State → ℕ → ℕ → State
+withPlaced s p count =
+    record {
+      records = s .records;
+      partitions = s .partitions;
+      workers = s .workers;
+      next = s .next;
+      size = s .size;
+      batch = s .batch;
+      placed = set (s .placed) p count;
+      rows = s .rows;
+      crew = s .crew;
+    }
+
 -- a store with no batch open: "batch number 0", "counts 0, transactions Unprocessed, workers idle"
 unfoldable pub unopened : ℕ → ℕ → ℕ → ℕ → State
 unopened n p w start =

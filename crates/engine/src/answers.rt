@@ -1,11 +1,13 @@
 // The answers of the calls.
 ghost use mathlib.Core.Path.{_≡_};
 ghost use Rattle.engine.specs.Answers.{answerNumber, answerPlace, answerPosition, refuse, accept};
+ghost use Rattle.engine.specs.Answers.{refuseBy, isAccepted};
 use crate::Answer;
 use crate::State;
 use crate::Stepped;
 use terms::Place;
 use terms::Refusal;
+use terms::Verdict;
 
 impl Answer {
     // The refusal number, and 0 for an accepted step or a wait.
@@ -54,6 +56,16 @@ impl State {
         }
     }
 
+    // A refusal that was found, with its place.
+    pub(crate) fn refused_by(self, refusal: Refusal, place: Place) -> Stepped
+        ensures { λ r. ⌜ r ≡ refuseBy self refusal place ⌝ }
+    {
+        Stepped {
+            answer: Answer::Refused(refusal, place),
+            state: self,
+        }
+    }
+
     pub(crate) fn accepted(self) -> Stepped
         ensures { λ r. ⌜ r ≡ accept self ⌝ }
     {
@@ -61,5 +73,14 @@ impl State {
             answer: Answer::Accepted,
             state: self,
         }
+    }
+}
+
+pub(crate) fn is_accepted(verdict: Verdict) -> bool
+    ensures { λ r. ⌜ r ≡ isAccepted verdict ⌝ }
+{
+    match verdict {
+        Verdict::Accepted => true,
+        Verdict::Refused(_, _) => false,
     }
 }

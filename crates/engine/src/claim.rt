@@ -13,19 +13,23 @@ use crate::workers;
 use terms::Refusal;
 
 impl State {
+    // Transaction i goes on as given; past the last nothing changes.
     pub(crate) fn with_row(mut self, i: usize, row: Row) -> State
-        requires { ⌜ i < 64 ⌝ }
         ensures { λ r. ⌜ r ≡ withRow self i row ⌝ }
     {
-        self.rows[i] = row;
+        if i < 64 {
+            self.rows[i] = row;
+        }
         self
     }
 
+    // Worker w goes on as given; past the last nothing changes.
     pub(crate) fn with_worker(mut self, w: usize, worker: Worker) -> State
-        requires { ⌜ w < 8 ⌝ }
         ensures { λ r. ⌜ r ≡ withWorker self w worker ⌝ }
     {
-        self.crew[w] = worker;
+        if w < 8 {
+            self.crew[w] = worker;
+        }
         self
     }
 

@@ -1,11 +1,18 @@
 // The engine: its state, and the calls that make a store, open a batch, work it off and seal it. The state goes in by
 // value and each call hands the next one back.
+mod acts;
+mod advance;
 mod answers;
 mod claim;
 mod make;
 mod moment;
+mod moves;
+mod open;
+mod place;
 mod range;
 mod rows;
+mod seal;
+mod tables;
 mod workers;
 
 use counters::Outcome;

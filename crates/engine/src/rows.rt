@@ -1,9 +1,10 @@
 // A transaction of the batch alone.
 ghost use mathlib.Core.Path.{_≡_};
 ghost use Rattle.engine.specs.Rows.{isUnprocessed, isComplete, executingBy, row as rowOf};
-ghost use Rattle.engine.specs.declared.Progress.the-variants.{Unprocessed, Executing};
+ghost use Rattle.engine.specs.declared.Progress.the-variants.{Unprocessed, Executing, Complete};
 use crate::Progress;
 use crate::Row;
+use counters::Outcome;
 
 pub(crate) fn is_unprocessed(row: Row) -> bool
     ensures { λ r. ⌜ r ≡ isUnprocessed row ⌝ }
@@ -44,6 +45,14 @@ pub(crate) fn unprocessed() -> Row
 {
     Row {
         progress: Progress::Unprocessed,
+    }
+}
+
+pub(crate) fn complete(outcome: Outcome) -> Row
+    ensures { λ r. ⌜ r ≡ rowOf (Complete outcome) ⌝ }
+{
+    Row {
+        progress: Progress::Complete(outcome),
     }
 }
 

@@ -4,6 +4,7 @@ use mathlib.Core.List.{List}
 use mathlib.Core.Path.{_≡_, ap}
 use Rattle.terms.specs.Unique.{same}
 use Rattle.terms.specs.declared.refusal.Verdict.{Verdict}
+use Rattle.packed.specs.Decode.{nothing}
 use Rattle.packed.specs.Packing.{packed, packOf}
 use Rattle.packed.specs.Unpacking.{unpackOf, unpackAtOf}
 use Rattle.packed.specs.declared.Transaction.{Transaction}
@@ -21,3 +22,6 @@ pub pack-unique : (n : ℕ) (meaning : Transaction) (buffer : List ℕ) (a b : V
     → (a ≡ b) × (a-exit ≡ b-exit)
 pack-unique n meaning buffer a b a-exit b-exit first second =
     (ap (λ x. x .verdict) (same first second), ap (λ x. x .buffer) (same first second))
+
+pub no-meaning-unique : (a b : Transaction) → a ≡ nothing → b ≡ nothing → a ≡ b
+no-meaning-unique a b = same

@@ -51,7 +51,7 @@ pub(crate) fn decoded(b: &[u8]) -> Transaction
 }
 
 // The all-zero meaning.
-pub(crate) fn no_meaning() -> Transaction
+pub fn no_meaning() -> Transaction
     ensures { λ r. ⌜ r ≡ nothing ⌝ }
 {
     let row = ActionRow {

@@ -7,6 +7,7 @@ mod packing;
 mod records;
 mod unpacking;
 
+pub use decode::no_meaning;
 pub use packing::pack;
 use terms::Verdict;
 pub use unpacking::unpack;

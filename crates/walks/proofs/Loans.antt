@@ -131,3 +131,17 @@ module _ {M : Type 1} {𝓤 : URA M} {H : Heap 𝓤} {A : Atoms 𝓤} {K : Type 
   abbrev pub use6 : {i₁ i₂ i₃ i₄ i₅ i₆ : Item 𝓤} (k : Item 𝓤) → ent 𝓤 (⋆ 𝓤 H A (i₁ ∷ i₂ ∷ i₃ ∷ i₄ ∷ i₅ ∷ i₆ ∷ []))
       (mean 𝓤 H A k) → Step K W (k ∷ Γ) G (i₁ ∷ i₂ ∷ i₃ ∷ i₄ ∷ i₅ ∷ i₆ ∷ Γ) G
   use6 {i₁} {i₂} {i₃} {i₄} {i₅} {i₆} k h = cut (i₁ ∷ i₂ ∷ i₃ ∷ i₄ ∷ i₅ ∷ i₆ ∷ []) (k ∷ []) Γ h
+
+  -- the first eight
+  abbrev pub use8 : {i₁ i₂ i₃ i₄ i₅ i₆ i₇ i₈ : Item 𝓤} (k : Item 𝓤)
+      → ent 𝓤 (⋆ 𝓤 H A (i₁ ∷ i₂ ∷ i₃ ∷ i₄ ∷ i₅ ∷ i₆ ∷ i₇ ∷ i₈ ∷ [])) (mean 𝓤 H A k)
+      → Step K W (k ∷ Γ) G (i₁ ∷ i₂ ∷ i₃ ∷ i₄ ∷ i₅ ∷ i₆ ∷ i₇ ∷ i₈ ∷ Γ) G
+  use8 {i₁} {i₂} {i₃} {i₄} {i₅} {i₆} {i₇} {i₈} k h =
+      cut (i₁ ∷ i₂ ∷ i₃ ∷ i₄ ∷ i₅ ∷ i₆ ∷ i₇ ∷ i₈ ∷ []) (k ∷ []) Γ h
+
+  -- the first ten
+  abbrev pub use10 : {i₁ i₂ i₃ i₄ i₅ i₆ i₇ i₈ i₉ i₁₀ : Item 𝓤} (k : Item 𝓤)
+      → ent 𝓤 (⋆ 𝓤 H A (i₁ ∷ i₂ ∷ i₃ ∷ i₄ ∷ i₅ ∷ i₆ ∷ i₇ ∷ i₈ ∷ i₉ ∷ i₁₀ ∷ [])) (mean 𝓤 H A k)
+      → Step K W (k ∷ Γ) G (i₁ ∷ i₂ ∷ i₃ ∷ i₄ ∷ i₅ ∷ i₆ ∷ i₇ ∷ i₈ ∷ i₉ ∷ i₁₀ ∷ Γ) G
+  use10 {i₁} {i₂} {i₃} {i₄} {i₅} {i₆} {i₇} {i₈} {i₉} {i₁₀} k h =
+      cut (i₁ ∷ i₂ ∷ i₃ ∷ i₄ ∷ i₅ ∷ i₆ ∷ i₇ ∷ i₈ ∷ i₉ ∷ i₁₀ ∷ []) (k ∷ []) Γ h
