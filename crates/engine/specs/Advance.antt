@@ -302,7 +302,7 @@ carriedOut move s w i versions results =
     record {
       stepped = answeredBy (move .answer) s (movedState s w i move);
       versions =
-        cond (move .fills) (fillOf versions (record { slot = move .slot; contents = move .contents })) versions;
+          cond (move .fills) (fillOf versions (record { slot = move .slot; contents = move .contents })) versions;
       results = cond (move .completes) (putFour results (4 * i) (move .results)) results;
     }
 

@@ -95,12 +95,12 @@ aimWith Passed worker t newest bound position =
       writecount = t .writecount;
       decision = decisionFor (actOf worker t) worker t;
       look =
-        record {
-          number = lookedAt (actOf worker t) t;
-          slot = slotLooked (actOf worker t) (lookedAt (actOf worker t) t) newest;
-          bound = bound;
-          position = position;
-        };
+          record {
+            number = lookedAt (actOf worker t) t;
+            slot = slotLooked (actOf worker t) (lookedAt (actOf worker t) t) newest;
+            bound = bound;
+            position = position;
+          };
     }
 aimWith (Fails refusal place) worker t newest bound position = noAim (Fails refusal place)
 
@@ -177,7 +177,8 @@ fill-on : (versions : List Version) (fills : Bool) (plan : FillPlan)
     → fillOf versions (cond fills plan (record { slot = length versions; contents = 0 }))
     ≡ cond fills (fillOf versions plan) versions
 fill-on versions true plan = refl
-fill-on versions false plan = fill-past versions _ (le-refl _)
+fill-on versions false plan =
+    fill-past versions (record { slot = length versions; contents = 0 }) (le-refl (length versions))
 
 module _ (s : State) (w : ℕ) (log records newest : List ℕ) (versions : List Version) (results : List ℕ) where
   abbrev said : Verdict

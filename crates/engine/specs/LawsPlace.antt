@@ -117,7 +117,9 @@ write-on : (plans : Plans) (here : Bool) (r slot position : ℕ)
     ≡ cond here (placeWrite position slot r plans) plans
 write-on plans true r slot position = refl
 write-on plans false r slot position =
-    ap (λ v. record { newest = plans .newest; versions = v }) (link-past (plans .versions) _ (le-refl _))
+    ap (λ v. record { newest = plans .newest; versions = v })
+    (link-past (plans .versions) (record { slot = length (plans .versions); position = 0; previous = noSlot })
+    (le-refl (length (plans .versions))))
 
 -- the tables after all four
 abbrev pub writesOn : Placing → Plans → Plans
@@ -153,22 +155,37 @@ module _ (s : State) (p : ℕ) (log newest : List ℕ) (versions : List Version)
       t : Transaction
       t = meaningAt s log (placedBy s p)
 
-      one : (plans : Plans) (j : ℕ)
-          → writeOn plans
-          (record { here = writtenIn (s .partitions) p t j; number = writeOf t j; slot = slotOf i j; position = positionOf s i })
+      write : ℕ → Write
+      write j =
+          record {
+            here = writtenIn (s .partitions) p t j;
+            number = writeOf t j;
+            slot = slotOf i j;
+            position = positionOf s i;
+          }
+
+      one : (plans : Plans) (j : ℕ) → writeOn plans (write j)
           ≡ cond (writtenIn (s .partitions) p t j) (placeWrite (positionOf s i) (slotOf i j) (writeOf t j) plans) plans
       one plans j = write-on plans (writtenIn (s .partitions) p t j) (writeOf t j) (slotOf i j) (positionOf s i)
 
-      none : (plans : Plans) (slot : ℕ)
-          → writeOn plans (record { here = false; number = 0; slot = slot; position = 0 }) ≡ plans
-      none plans slot = write-on plans false 0 slot 0
+      not-one : ℕ → Write
+      not-one j = record { here = false; number = 0; slot = slotOf 0 j; position = 0 }
+
+      none : (plans : Plans) (j : ℕ) → writeOn plans (not-one j) ≡ plans
+      none plans j = write-on plans false 0 (slotOf 0 j) 0
 
       go : (v : Verdict) → writesOn (placingWith v s p (placedBy s p) (meaningAt s log (placedBy s p))) tables
           ≡ placedWhen v s p log tables .plans
       go Accepted =
-          rw (one tables 0, one (placeBelow 1 s p i t tables) 1, one (placeBelow 2 s p i t tables) 2,
-            one (placeBelow 3 s p i t tables) 3)
-      go (Refused refusal place) = rw (none tables 0, none tables 1, none tables 2, none tables 3)
+          ap (λ q. writeOn (writeOn (writeOn q (write 1)) (write 2)) (write 3)) (one tables 0)
+          ∙ ap (λ q. writeOn (writeOn q (write 2)) (write 3)) (one (placeBelow 1 s p i t tables) 1)
+          ∙ ap (λ q. writeOn q (write 3)) (one (placeBelow 2 s p i t tables) 2)
+          ∙ one (placeBelow 3 s p i t tables) 3
+      go (Refused refusal place) =
+          ap (λ q. writeOn (writeOn (writeOn q (not-one 1)) (not-one 2)) (not-one 3)) (none tables 0)
+          ∙ ap (λ q. writeOn (writeOn q (not-one 2)) (not-one 3)) (none tables 1)
+          ∙ ap (λ q. writeOn q (not-one 3)) (none tables 2)
+          ∙ none tables 3
 
   pub place-newest : writesOn (placingOf s p log newest (length versions)) tables .newest
       ≡ placeOf s p log newest versions .plans .newest

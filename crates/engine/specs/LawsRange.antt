@@ -61,9 +61,9 @@ in-range s none =
       some-record = ltb-false (s .records) 1 (not-left (ltb (s .records) 1) (ltb 1024 (s .records)) number);
       few-records = ltb-false 1024 (s .records) (not-right (ltb (s .records) 1) (ltb 1024 (s .records)) number);
       some-partition =
-        ltb-false (s .partitions) 1 (not-left (ltb (s .partitions) 1) (ltb 8 (s .partitions)) partition);
+          ltb-false (s .partitions) 1 (not-left (ltb (s .partitions) 1) (ltb 8 (s .partitions)) partition);
       few-partitions =
-        ltb-false 8 (s .partitions) (not-right (ltb (s .partitions) 1) (ltb 8 (s .partitions)) partition);
+          ltb-false 8 (s .partitions) (not-right (ltb (s .partitions) 1) (ltb 8 (s .partitions)) partition);
       some-worker = ltb-false (s .workers) 1 (not-left (ltb (s .workers) 1) (ltb 8 (s .workers)) worker);
       few-workers = ltb-false 8 (s .workers) (not-right (ltb (s .workers) 1) (ltb 8 (s .workers)) worker);
       few-transactions = ltb-false 64 (s .size) (none-of records faults 3 numbers);

@@ -2,6 +2,7 @@ pub mod Acts
 pub mod Advance
 pub mod Answers
 pub mod Claim
+pub mod Contracts
 pub mod Counting
 pub mod LawsActs
 pub mod LawsAdvance

@@ -107,8 +107,8 @@ placeWrite position slot r plans =
     record {
       newest = set (plans .newest) r slot;
       versions =
-        linkOf (plans .versions)
-        (record { slot = slot; position = position; previous = newestOf (plans .newest) r });
+          linkOf (plans .versions)
+          (record { slot = slot; position = position; previous = newestOf (plans .newest) r });
     }
 
 -- "For each write in that partition, ascending": those below a number

@@ -179,7 +179,13 @@ fn aimed(worker: Worker, entry: Unpacked, newest: &[u16], bound: usize, position
 
 impl State {
     // "a lent table's length is wrong", of those that an advance is lent
-    fn is_wrong_for_advance(self, records: usize, newest: usize, versions: usize, results: usize) -> bool
+    fn is_wrong_for_advance(
+        self,
+        records: usize,
+        newest: usize,
+        versions: usize,
+        results: usize,
+    ) -> bool
         ensures { λ r. ⌜ r ≡ wrongForAdvance self records newest versions results ⌝ }
     {
         tables::is_not_of(records, self.records as usize)
@@ -189,7 +195,15 @@ impl State {
     }
 
     // "Steps check 1, 14, 9, 10, .. 12, .. then, in place and advance, 2 and the one transaction's 4 to 8, then 15."
-    pub(crate) fn aim(self, w: usize, log: &[u8], newest: &[u16], records: usize, versions: usize, results: usize) -> Aim
+    pub(crate) fn aim(
+        self,
+        w: usize,
+        log: &[u8],
+        newest: &[u16],
+        records: usize,
+        versions: usize,
+        results: usize,
+    ) -> Aim
         ensures { λ r. ⌜ r ≡ aimOf self w (now (log .entry)) (now (newest .entry)) records versions results ⌝ }
     {
         if self.is_wrong_for_advance(records, newest.len(), versions, results) {
@@ -211,8 +225,18 @@ impl State {
         if tables::is_not_of(log.len(), 88 * self.size as usize) {
             return refused_aim(Refusal::WrongLength);
         }
-        let entry = unpack_at(log, workers::index(worker.transaction), self.records as usize);
-        aimed(worker, entry, newest, self.slots(), self.next.0 + worker.transaction as u64)
+        let entry = unpack_at(
+            log,
+            workers::index(worker.transaction),
+            self.records as usize,
+        );
+        aimed(
+            worker,
+            entry,
+            newest,
+            self.slots(),
+            self.next.0 + worker.transaction as u64,
+        )
     }
 }
 
@@ -297,7 +321,7 @@ pub(crate) fn give_results(results: &mut [u64], turn: Turn)
 pub(crate) fn carry_out(versions: &mut [Version], results: &mut [u64], turn: Turn)
     ensures { λ _.
         ⌜ (now (versions .exit)
-            ≡ fillOf (now (versions .entry)) (fillBy (turn .step) (length (now (versions .entry)))))
+        ≡ fillOf (now (versions .entry)) (fillBy (turn .step) (length (now (versions .entry)))))
         × (now (results .exit) ≡ resultsBy (now (results .entry)) turn) ⌝ }
 {
     let plan = fill_by(turn, versions.len());
@@ -330,7 +354,8 @@ impl State {
         ensures { λ r. ⌜ r ≡ movedState self w i step ⌝ }
     {
         if step.leaves {
-            self.with_row(workers::index(i), step.row).with_worker(w, step.worker)
+            self.with_row(workers::index(i), step.row)
+                .with_worker(w, step.worker)
         } else {
             self.with_worker(w, step.worker)
         }
@@ -349,7 +374,7 @@ impl State {
         ensures { λ r.
             ⌜ r
             ≡ turnOf self w (now (log .entry)) (now (records .entry)) (now (newest .entry)) (now (versions .entry))
-                results ⌝ }
+            results ⌝ }
     {
         let aim = self.aim(w, log, newest, records.len(), versions.len(), results);
         turn_after_look(versions, records, aim)
@@ -367,14 +392,14 @@ impl State {
     ) -> Stepped
         ensures { λ r.
             ⌜ (r
-                ≡ advanceOf self w (now (log .entry)) (now (records .entry)) (now (newest .entry)) (now (versions .entry))
-                    (now (results .entry)) .stepped)
+            ≡ advanceOf self w (now (log .entry)) (now (records .entry)) (now (newest .entry)) (now (versions .entry))
+            (now (results .entry)) .stepped)
             × ((now (versions .exit)
-                ≡ advanceOf self w (now (log .entry)) (now (records .entry)) (now (newest .entry)) (now (versions .entry))
-                    (now (results .entry)) .versions)
+            ≡ advanceOf self w (now (log .entry)) (now (records .entry)) (now (newest .entry)) (now (versions .entry))
+            (now (results .entry)) .versions)
             × (now (results .exit)
-                ≡ advanceOf self w (now (log .entry)) (now (records .entry)) (now (newest .entry)) (now (versions .entry))
-                    (now (results .entry)) .results)) ⌝ }
+            ≡ advanceOf self w (now (log .entry)) (now (records .entry)) (now (newest .entry)) (now (versions .entry))
+            (now (results .entry)) .results)) ⌝ }
     {
         let turn = self.turn(w, log, records, newest, versions, results.len());
         carry_out(versions, results, turn);

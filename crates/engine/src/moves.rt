@@ -58,7 +58,14 @@ pub(crate) fn seen_by(walked: Walked, stored: u64) -> Seen
     }
 }
 
-fn unfilled(answer: Answer, worker: Worker, leaves: bool, row: Row, completes: bool, results: [u64; 4]) -> Move
+fn unfilled(
+    answer: Answer,
+    worker: Worker,
+    leaves: bool,
+    row: Row,
+    completes: bool,
+    results: [u64; 4],
+) -> Move
     ensures { λ r. ⌜ r ≡ unfilled answer worker leaves row completes results ⌝ }
 {
     Move {
@@ -86,7 +93,14 @@ pub(crate) fn keeps(refusal: Refusal, place: Place) -> Move
 {
     let worker = workers::idle();
     let row = rows::unprocessed();
-    unfilled(Answer::Refused(refusal, place), worker, false, row, false, [0; 4])
+    unfilled(
+        Answer::Refused(refusal, place),
+        worker,
+        false,
+        row,
+        false,
+        [0; 4],
+    )
 }
 
 fn breaks() -> Move
@@ -102,7 +116,14 @@ fn waits_for(position: u64) -> Move
 {
     let worker = workers::idle();
     let row = rows::unprocessed();
-    unfilled(Answer::Waits(Position(position)), worker, true, row, false, [0; 4])
+    unfilled(
+        Answer::Waits(Position(position)),
+        worker,
+        true,
+        row,
+        false,
+        [0; 4],
+    )
 }
 
 // Value k of so many read, and 0 past them.
@@ -312,7 +333,14 @@ fn with_phase(worker: Worker, phase: Phase) -> Worker
 }
 
 // The worker after fill j: "The last fill .. completes the transaction".
-fn after_fill(worker: Worker, outcome: Outcome, count: u8, carries: u8, j: u8, writecount: u8) -> Move
+fn after_fill(
+    worker: Worker,
+    outcome: Outcome,
+    count: u8,
+    carries: u8,
+    j: u8,
+    writecount: u8,
+) -> Move
     ensures { λ r. ⌜ r ≡ afterFill worker outcome count carries j writecount ⌝ }
 {
     let fills = one_more(j);
@@ -352,7 +380,13 @@ fn fills(worker: Worker, writecount: u8, j: u8) -> Move
 }
 
 // What an act changes, with the decision where it is to decide, where a look at its record shows this.
-pub(crate) fn move_by(act: Act, worker: Worker, writecount: u8, decision: Decision, seen: Seen) -> Move
+pub(crate) fn move_by(
+    act: Act,
+    worker: Worker,
+    writecount: u8,
+    decision: Decision,
+    seen: Seen,
+) -> Move
     ensures { λ r. ⌜ r ≡ moveWith act worker writecount decision seen ⌝ }
 {
     match act {

@@ -102,7 +102,13 @@ impl State {
     }
 
     // "Opening checks 1, 14, 9, 2, 3, then each transaction in turn 4 to 8."
-    pub(crate) fn opening(self, log: &[u8], newest: usize, versions: usize, results: usize) -> Opening
+    pub(crate) fn opening(
+        self,
+        log: &[u8],
+        newest: usize,
+        versions: usize,
+        results: usize,
+    ) -> Opening
         ensures { λ r. ⌜ r ≡ openingOf self (now (log .entry)) newest versions results ⌝ }
     {
         if self.is_wrong_for_opening(newest, versions, results) {
@@ -145,20 +151,26 @@ impl State {
 
     // "Opening fills the newest-version table with 65,535, the version table with empty entries .. and the results with
     // 0".
-    pub fn open(self, log: &[u8], newest: &mut [u16], versions: &mut [Version], results: &mut [u64]) -> Stepped
+    pub fn open(
+        self,
+        log: &[u8],
+        newest: &mut [u16],
+        versions: &mut [Version],
+        results: &mut [u64],
+    ) -> Stepped
         ensures { λ r.
             ⌜ (r
-                ≡ openOf self (now (log .entry)) (now (newest .entry)) (now (versions .entry)) (now (results .entry))
-                    .stepped)
+            ≡ openOf self (now (log .entry)) (now (newest .entry)) (now (versions .entry)) (now (results .entry))
+            .stepped)
             × ((now (newest .exit)
-                ≡ openOf self (now (log .entry)) (now (newest .entry)) (now (versions .entry)) (now (results .entry))
-                    .newest)
+            ≡ openOf self (now (log .entry)) (now (newest .entry)) (now (versions .entry)) (now (results .entry))
+            .newest)
             × ((now (versions .exit)
-                ≡ openOf self (now (log .entry)) (now (newest .entry)) (now (versions .entry)) (now (results .entry))
-                    .versions)
+            ≡ openOf self (now (log .entry)) (now (newest .entry)) (now (versions .entry)) (now (results .entry))
+            .versions)
             × (now (results .exit)
-                ≡ openOf self (now (log .entry)) (now (newest .entry)) (now (versions .entry)) (now (results .entry))
-                    .results))) ⌝ }
+            ≡ openOf self (now (log .entry)) (now (newest .entry)) (now (versions .entry)) (now (results .entry))
+            .results))) ⌝ }
     {
         let opening = self.opening(log, newest.len(), versions.len(), results.len());
         let on = opens(opening);

@@ -85,7 +85,7 @@ fn meets_wrong(here: bool, transaction: u8, number: u16, j: usize, newest: &[u16
 
 // Some write meets a wrong slot.
 fn some_meets_wrong(transaction: u8, writes: [u16; 4], here: [bool; 4], newest: &[u16]) -> bool
-    ensures { λ r. 
+    ensures { λ r.
         ⌜ r
         ≡ someBelow 4 (λ j. meetsAt (getD here j false) transaction (getD writes j 0) j (now (newest .entry))) ⌝ }
 {
@@ -128,7 +128,7 @@ impl State {
         ensures { λ r.
             ⌜ r
             ≡ placingWith (fits (self .partitions) p transaction entry (now (newest .entry))) self p transaction
-                (entry .meaning) ⌝ }
+            (entry .meaning) ⌝ }
     {
         let verdict = entry.verdict;
         match verdict {
@@ -201,9 +201,7 @@ impl State {
     {
         let verdict = plan.verdict;
         match verdict {
-            Verdict::Accepted => {
-                self.with_placed(p, plan.count).accepted()
-            }
+            Verdict::Accepted => { self.with_placed(p, plan.count).accepted() }
             Verdict::Refused(refusal, place) => self.refused_by(refusal, place),
         }
     }
@@ -270,8 +268,8 @@ pub(crate) fn place_write(newest: &mut [u16], versions: &mut [Version], write: W
     ensures { λ _.
         ⌜ (now (newest .exit) ≡ makeNewest (now (newest .entry)) write)
         × (now (versions .exit)
-            ≡ linkOf (now (versions .entry))
-                (linkBehind (now (newest .entry)) (length (now (versions .entry))) write)) ⌝ }
+        ≡ linkOf (now (versions .entry))
+        (linkBehind (now (newest .entry)) (length (now (versions .entry))) write)) ⌝ }
 {
     let plan = link_behind(newest, versions.len(), write);
     link(versions, plan);
@@ -280,13 +278,19 @@ pub(crate) fn place_write(newest: &mut [u16], versions: &mut [Version], write: W
 
 impl State {
     // "For each write in that partition, ascending".
-    pub fn place(self, p: usize, log: &[u8], newest: &mut [u16], versions: &mut [Version]) -> Stepped
+    pub fn place(
+        self,
+        p: usize,
+        log: &[u8],
+        newest: &mut [u16],
+        versions: &mut [Version],
+    ) -> Stepped
         ensures { λ r.
             ⌜ (r ≡ placeOf self p (now (log .entry)) (now (newest .entry)) (now (versions .entry)) .stepped)
             × ((now (newest .exit)
-                ≡ placeOf self p (now (log .entry)) (now (newest .entry)) (now (versions .entry)) .plans .newest)
+            ≡ placeOf self p (now (log .entry)) (now (newest .entry)) (now (versions .entry)) .plans .newest)
             × (now (versions .exit)
-                ≡ placeOf self p (now (log .entry)) (now (newest .entry)) (now (versions .entry)) .plans .versions)) ⌝ }
+            ≡ placeOf self p (now (log .entry)) (now (newest .entry)) (now (versions .entry)) .plans .versions)) ⌝ }
     {
         let plan = self.placing(p, log, newest, versions.len());
         let first = write_at(plan, 0);

@@ -61,7 +61,13 @@ impl State {
     }
 
     // "The seal checks 1, 14, 9, 15."
-    pub(crate) fn sealing(self, records: usize, newest: usize, versions: usize, sound: bool) -> Sealing
+    pub(crate) fn sealing(
+        self,
+        records: usize,
+        newest: usize,
+        versions: usize,
+        sound: bool,
+    ) -> Sealing
         ensures { λ r. ⌜ r ≡ sealingOf self records newest versions sound ⌝ }
     {
         if self.is_wrong_for_seal(records, newest, versions) {
@@ -116,11 +122,11 @@ impl State {
         ensures { λ r.
             ⌜ (r ≡ sealOf self (now (records .entry)) (now (newest .entry)) (now (versions .entry)) .stepped)
             × ((now (records .exit)
-                ≡ sealOf self (now (records .entry)) (now (newest .entry)) (now (versions .entry)) .records)
+            ≡ sealOf self (now (records .entry)) (now (newest .entry)) (now (versions .entry)) .records)
             × ((now (newest .exit)
-                ≡ sealOf self (now (records .entry)) (now (newest .entry)) (now (versions .entry)) .newest)
+            ≡ sealOf self (now (records .entry)) (now (newest .entry)) (now (versions .entry)) .newest)
             × (now (versions .exit)
-                ≡ sealOf self (now (records .entry)) (now (newest .entry)) (now (versions .entry)) .versions))) ⌝ }
+            ≡ sealOf self (now (records .entry)) (now (newest .entry)) (now (versions .entry)) .versions))) ⌝ }
     {
         let slots = self.slots();
         let sound = newest_sound(versions, newest, slots);

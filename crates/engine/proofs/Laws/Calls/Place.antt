@@ -113,13 +113,49 @@ module _ {M : Type 1} (𝓤 : URA M) (H : Heap 𝓤) (A : Atoms 𝓤) (W : Given
     (b-log o-log m-log : ℕ) (b-newest o-newest m-newest : ℕ) (κ-log : Lft) (q-log : Share) (δ-log : GName)
     (κ-newest : Lft) (q-newest : Share) (δ-newest : GName) where
   abbrev args-placing : (State × (ℕ × (RefT (List ℕ) × (RefT (List ℕ) × (ℕ × Unit {0})))))
-  args-placing = (state, (p, (record { ptr = (b-log, o-log); name = δ-log; now = log }, (record { ptr =
-      (b-newest, o-newest); name = δ-newest; now = newest }, (entries, tt)))))
+  args-placing = (
+    state,
+    (
+      p,
+      (
+        record { ptr = (b-log, o-log); name = δ-log; now = log },
+        (
+          record {
+            ptr =
+                (b-newest, o-newest);
+            name = δ-newest;
+            now = newest;
+          },
+          (entries, tt),
+        ),
+      ),
+    ),
+  )
 
   abbrev pub to-placing : PlacingCall 𝓤 H A mem run .Ghost
-  to-placing = (((κ-log, (κ-newest, tt)), (q-log, (q-newest, tt)), tt, args-placing,
-      (Value.mach S.the-type S′.the-laws state ∷ [], (vint w64 p ∷ [], (sliceVal (b-log, o-log) m-log ∷ [], (sliceVal
-      (b-newest, o-newest) m-newest ∷ [], (vint w64 entries ∷ [], tt)))))), tt)
+  to-placing = (
+    (
+      (κ-log, (κ-newest, tt)),
+      (q-log, (q-newest, tt)),
+      tt,
+      args-placing,
+      (
+        Value.mach S.the-type S′.the-laws state ∷ [],
+        (
+          vint w64 p ∷ [],
+          (
+            sliceVal (b-log, o-log) m-log ∷ [],
+            (
+              sliceVal
+                  (b-newest, o-newest) m-newest ∷ [],
+              (vint w64 entries ∷ [], tt),
+            ),
+          ),
+        ),
+      ),
+    ),
+    tt,
+  )
 
   abbrev pub placing-lent : List (Item 𝓤)
   placing-lent = ‵ (flft κ-log q-log) ∷ ‵ (sees u8 b-log o-log m-log κ-log δ-log log) ∷ ‵ (flft κ-newest q-newest)
@@ -129,11 +165,11 @@ module _ {M : Type 1} (𝓤 : URA M) (H : Heap 𝓤) (A : Atoms 𝓤) (W : Given
       → ent 𝓤 (⋆ 𝓤 H A placing-lent) (PlacingCall 𝓤 H A mem run .pre to-placing)
   placing-goes g-state g-p g-entries =
       qed W placing-lent ∵ nothing ! $ move ! (3 ∷ 0 ∷ []) $ join ! $ move ! (1 ∷ 0 ∷ []) $ join ! $ nothing ! $
-          owned ! usize (Is usize) (uint-makes 𝓤 H A W w64) entries _ (refl, g-entries) $ fjoin ! $
-          move ! (3 ∷ 0 ∷ []) $ fjoin ! $ move ! (2 ∷ 0 ∷ []) $ fjoin ! $
-          owned ! usize (Is usize) (uint-makes 𝓤 H A W w64) p _ (refl, g-p) $ fjoin ! $
-          owned ! S.the-row (Is S.the-row) (LL.makes S.the-type S′.the-plain 𝓤 H A) state _ g-state $ fjoin ! $
-          move ! (1 ∷ 0 ∷ []) $ join ! $ nothing ! $ move ! (1 ∷ 0 ∷ []) $ done !
+      owned ! usize (Is usize) (uint-makes 𝓤 H A W w64) entries _ (refl, g-entries) $ fjoin ! $
+      move ! (3 ∷ 0 ∷ []) $ fjoin ! $ move ! (2 ∷ 0 ∷ []) $ fjoin ! $
+      owned ! usize (Is usize) (uint-makes 𝓤 H A W w64) p _ (refl, g-p) $ fjoin ! $
+      owned ! S.the-row (Is S.the-row) (LL.makes S.the-type S′.the-plain 𝓤 H A) state _ g-state $ fjoin ! $
+      move ! (1 ∷ 0 ∷ []) $ join ! $ nothing ! $ move ! (1 ∷ 0 ∷ []) $ done !
 
   abbrev pub placing-said : Val → Unit {0} → Type 0
   placing-said u x = Value.IsValue P.the-type P′.the-laws (placingOf state p log newest entries) u
@@ -145,18 +181,20 @@ module _ {M : Type 1} (𝓤 : URA M) (H : Heap 𝓤) (A : Atoms 𝓤) (W : Given
   placing-gives u =
       qed W (raw (PlacingCall 𝓤 H A mem run .post to-placing u) ∷ []) ∵ updating ! $
       use1 W (later (some (λ (r : Placing). ((‵ (flft κ-log q-log) ⊛ ‵ (flft κ-newest q-newest) ⊛ ‵ ftrue) ⊛ ‵
-          (P.the-row .own r (u ∷ []))) ⊛ raw (ensured 𝓤 H A placing.ended (placing.clauses 𝓤 H A mem run) (κ-log,
-          (κ-newest, tt)) args-placing tt r)))) (id⊢ 𝓤 _) $ await ! tt $ pick ! (λ r.
+      (P.the-row .own r (u ∷ []))) ⊛ raw (ensured 𝓤 H A placing.ended (placing.clauses 𝓤 H A mem run) (
+        κ-log,
+        (κ-newest, tt),
+      ) args-placing tt r)))) (id⊢ 𝓤 _) $ await ! tt $ pick ! (λ r.
       split ! $ move ! (1 ∷ []) $
-          use1 W (some (λ (zs : (Unit {0} × (Unit {0} × (Unit {0} × (Unit {0} × (Unit {0} × Unit {0})))))). ‵
-          (lasts placing.ended (κ-log, (κ-newest, tt)) args-placing zs) ⊛ raw (fact 𝓤
-          (r ≡ placingOf state p log newest entries)))) (id⊢ 𝓤 _) $ pick ! (λ zs.
+      use1 W (some (λ (zs : (Unit {0} × (Unit {0} × (Unit {0} × (Unit {0} × (Unit {0} × Unit {0})))))). ‵
+      (lasts placing.ended (κ-log, (κ-newest, tt)) args-placing zs) ⊛ raw (fact 𝓤
+      (r ≡ placingOf state p log newest entries)))) (id⊢ 𝓤 _) $ pick ! (λ zs.
       split ! $ move ! (1 ∷ []) $ heard ! (r ≡ placingOf state p log newest entries) (λ e. fsplit ! $ drop ! $
-          fsplit ! $ drop ! $ fsplit ! $ drop ! $ fsplit ! $ drop ! $ fsplit ! $ drop ! $ move ! (1 ∷ []) $ split ! $
-          move ! (1 ∷ []) $ peeks ! P.the-row (Is P.the-row) (shows 𝓤 H A P.the-row) r (u ∷ []) (λ is. drop ! $
-          split ! $ move ! (1 ∷ []) $ split ! $ move ! (1 ∷ []) $ at-once ! $ show ! (placing-after u) (tt) $
-          check ! (Value.is-value P.the-type P′.the-laws r (placingOf state p log newest entries) u (e) is) $
-          keep ! (2 ∷ 1 ∷ []) $ done !))))
+      fsplit ! $ drop ! $ fsplit ! $ drop ! $ fsplit ! $ drop ! $ fsplit ! $ drop ! $ move ! (1 ∷ []) $ split ! $
+      move ! (1 ∷ []) $ peeks ! P.the-row (Is P.the-row) (shows 𝓤 H A P.the-row) r (u ∷ []) (λ is. drop ! $
+      split ! $ move ! (1 ∷ []) $ split ! $ move ! (1 ∷ []) $ at-once ! $ show ! (placing-after u) (tt) $
+      check ! (Value.is-value P.the-type P′.the-laws r (placingOf state p log newest entries) u (e) is) $
+      keep ! (2 ∷ 1 ∷ []) $ done !))))
 
 -- ---- `write-at`
 module _ {M : Type 1} (𝓤 : URA M) (H : Heap 𝓤) (A : Atoms 𝓤) (mem : Memory → SProp 𝓤) (run : Routine → Fun 𝓤) where
@@ -164,7 +202,7 @@ module _ {M : Type 1} (𝓤 : URA M) (H : Heap 𝓤) (A : Atoms 𝓤) (mem : Mem
   WriteAt = tripleOf 𝓤 H A write-at.signature (write-at.spec 𝓤 H A mem run)
 
 module _ {M : Type 1} (𝓤 : URA M) (H : Heap 𝓤) (A : Atoms 𝓤) (W : Given 𝓤 H A) (mem : Memory
-    → SProp 𝓤) (run : Routine → Fun 𝓤) (plan : Placing) (j : ℕ)   where
+    → SProp 𝓤) (run : Routine → Fun 𝓤) (plan : Placing) (j : ℕ) where
   abbrev args-write-at : (Placing × (ℕ × Unit {0}))
   args-write-at = (plan, (j, tt))
 
@@ -178,9 +216,9 @@ module _ {M : Type 1} (𝓤 : URA M) (H : Heap 𝓤) (A : Atoms 𝓤) (W : Given
       → ent 𝓤 (⋆ 𝓤 H A write-at-lent) (WriteAt 𝓤 H A mem run .pre to-write-at)
   write-at-goes g-plan g-j =
       qed W write-at-lent ∵ nothing ! $ nothing ! $
-          owned ! usize (Is usize) (uint-makes 𝓤 H A W w64) j _ (refl, g-j) $ fjoin ! $
-          owned ! P.the-row (Is P.the-row) (LL.makes P.the-type P′.the-plain 𝓤 H A) plan _ g-plan $ fjoin ! $
-          move ! (1 ∷ 0 ∷ []) $ join ! $ nothing ! $ move ! (1 ∷ 0 ∷ []) $ done !
+      owned ! usize (Is usize) (uint-makes 𝓤 H A W w64) j _ (refl, g-j) $ fjoin ! $
+      owned ! P.the-row (Is P.the-row) (LL.makes P.the-type P′.the-plain 𝓤 H A) plan _ g-plan $ fjoin ! $
+      move ! (1 ∷ 0 ∷ []) $ join ! $ nothing ! $ move ! (1 ∷ 0 ∷ []) $ done !
 
   abbrev pub write-at-said : Val → Unit {0} → Type 0
   write-at-said u x = Value.IsValue Y.the-type Y′.the-laws (writeAt plan j) u
@@ -192,16 +230,16 @@ module _ {M : Type 1} (𝓤 : URA M) (H : Heap 𝓤) (A : Atoms 𝓤) (W : Given
   write-at-gives u =
       qed W (raw (WriteAt 𝓤 H A mem run .post to-write-at u) ∷ []) ∵ updating ! $
       use1 W (later (some (λ (r : Write). ((‵ ftrue) ⊛ ‵ (Y.the-row .own r (u ∷ []))) ⊛ raw
-          (ensured 𝓤 H A write-at.ended (write-at.clauses 𝓤 H A mem run) tt args-write-at tt r)))) (id⊢ 𝓤 _) $
-          await ! tt $ pick ! (λ r.
+      (ensured 𝓤 H A write-at.ended (write-at.clauses 𝓤 H A mem run) tt args-write-at tt r)))) (id⊢ 𝓤 _) $
+      await ! tt $ pick ! (λ r.
       split ! $ move ! (1 ∷ []) $
-          use1 W (some (λ (zs : (Unit {0} × (Unit {0} × Unit {0}))). ‵ (lasts write-at.ended tt args-write-at zs)
-          ⊛ raw (fact 𝓤 (r ≡ writeAt plan j)))) (id⊢ 𝓤 _) $ pick ! (λ zs.
+      use1 W (some (λ (zs : (Unit {0} × (Unit {0} × Unit {0}))). ‵ (lasts write-at.ended tt args-write-at zs)
+      ⊛ raw (fact 𝓤 (r ≡ writeAt plan j)))) (id⊢ 𝓤 _) $ pick ! (λ zs.
       split ! $ move ! (1 ∷ []) $ heard ! (r ≡ writeAt plan j) (λ e. fsplit ! $ drop ! $ fsplit ! $ drop ! $
-          move ! (1 ∷ []) $ split ! $ move ! (1 ∷ []) $
-          peeks ! Y.the-row (Is Y.the-row) (shows 𝓤 H A Y.the-row) r (u ∷ []) (λ is. drop ! $ at-once ! $
-          show ! (write-at-after u) (tt) $
-          check ! (Value.is-value Y.the-type Y′.the-laws r (writeAt plan j) u (e) is) $ keep ! ([]) $ done !))))
+      move ! (1 ∷ []) $ split ! $ move ! (1 ∷ []) $
+      peeks ! Y.the-row (Is Y.the-row) (shows 𝓤 H A Y.the-row) r (u ∷ []) (λ is. drop ! $ at-once ! $
+      show ! (write-at-after u) (tt) $
+      check ! (Value.is-value Y.the-type Y′.the-laws r (writeAt plan j) u (e) is) $ keep ! ([]) $ done !))))
 
 -- ---- `link-behind`
 module _ {M : Type 1} (𝓤 : URA M) (H : Heap 𝓤) (A : Atoms 𝓤) (mem : Memory → SProp 𝓤) (run : Routine → Fun 𝓤) where
@@ -215,8 +253,20 @@ module _ {M : Type 1} (𝓤 : URA M) (H : Heap 𝓤) (A : Atoms 𝓤) (W : Given
   args-link-behind = (record { ptr = (b-newest, o-newest); name = δ-newest; now = newest }, (entries, (write, tt)))
 
   abbrev pub to-link-behind : LinkBehind 𝓤 H A mem run .Ghost
-  to-link-behind = (((κ-newest, tt), (q-newest, tt), tt, args-link-behind, (sliceVal (b-newest, o-newest)
-      m-newest ∷ [], (vint w64 entries ∷ [], (Value.mach Y.the-type Y′.the-laws write ∷ [], tt)))), tt)
+  to-link-behind = (
+    (
+      (κ-newest, tt),
+      (q-newest, tt),
+      tt,
+      args-link-behind,
+      (
+        sliceVal (b-newest, o-newest)
+            m-newest ∷ [],
+        (vint w64 entries ∷ [], (Value.mach Y.the-type Y′.the-laws write ∷ [], tt)),
+      ),
+    ),
+    tt,
+  )
 
   abbrev pub link-behind-lent : List (Item 𝓤)
   link-behind-lent = ‵ (flft κ-newest q-newest) ∷ ‵ (sees u16 b-newest o-newest m-newest κ-newest δ-newest newest) ∷ []
@@ -225,9 +275,9 @@ module _ {M : Type 1} (𝓤 : URA M) (H : Heap 𝓤) (A : Atoms 𝓤) (W : Given
       → ent 𝓤 (⋆ 𝓤 H A link-behind-lent) (LinkBehind 𝓤 H A mem run .pre to-link-behind)
   link-behind-goes g-entries g-write =
       qed W link-behind-lent ∵ nothing ! $ move ! (1 ∷ 0 ∷ []) $ join ! $ nothing ! $
-          owned ! Y.the-row (Is Y.the-row) (LL.makes Y.the-type Y′.the-plain 𝓤 H A) write _ g-write $ fjoin ! $
-          owned ! usize (Is usize) (uint-makes 𝓤 H A W w64) entries _ (refl, g-entries) $ fjoin ! $
-          move ! (2 ∷ 0 ∷ []) $ fjoin ! $ move ! (1 ∷ 0 ∷ []) $ join ! $ nothing ! $ move ! (1 ∷ 0 ∷ []) $ done !
+      owned ! Y.the-row (Is Y.the-row) (LL.makes Y.the-type Y′.the-plain 𝓤 H A) write _ g-write $ fjoin ! $
+      owned ! usize (Is usize) (uint-makes 𝓤 H A W w64) entries _ (refl, g-entries) $ fjoin ! $
+      move ! (2 ∷ 0 ∷ []) $ fjoin ! $ move ! (1 ∷ 0 ∷ []) $ join ! $ nothing ! $ move ! (1 ∷ 0 ∷ []) $ done !
 
   abbrev pub link-behind-said : Val → Unit {0} → Type 0
   link-behind-said u x = Value.IsValue L.the-type L′.the-laws (linkBehind newest entries write) u
@@ -240,18 +290,18 @@ module _ {M : Type 1} (𝓤 : URA M) (H : Heap 𝓤) (A : Atoms 𝓤) (W : Given
   link-behind-gives u =
       qed W (raw (LinkBehind 𝓤 H A mem run .post to-link-behind u) ∷ []) ∵ updating ! $
       use1 W (later (some (λ (r : Link). ((‵ (flft κ-newest q-newest) ⊛ ‵ ftrue) ⊛ ‵ (L.the-row .own r (u ∷ [])))
-          ⊛ raw (ensured 𝓤 H A link-behind.ended (link-behind.clauses 𝓤 H A mem run) (κ-newest, tt)
-          args-link-behind tt r)))) (id⊢ 𝓤 _) $ await ! tt $ pick ! (λ r.
+      ⊛ raw (ensured 𝓤 H A link-behind.ended (link-behind.clauses 𝓤 H A mem run) (κ-newest, tt)
+      args-link-behind tt r)))) (id⊢ 𝓤 _) $ await ! tt $ pick ! (λ r.
       split ! $ move ! (1 ∷ []) $
-          use1 W (some (λ (zs : (Unit {0} × (Unit {0} × (Unit {0} × Unit {0})))). ‵ (lasts link-behind.ended
-          (κ-newest, tt) args-link-behind zs) ⊛ raw (fact 𝓤 (r ≡ linkBehind newest entries write)))) (id⊢ 𝓤 _) $
-          pick ! (λ zs.
+      use1 W (some (λ (zs : (Unit {0} × (Unit {0} × (Unit {0} × Unit {0})))). ‵ (lasts link-behind.ended
+      (κ-newest, tt) args-link-behind zs) ⊛ raw (fact 𝓤 (r ≡ linkBehind newest entries write)))) (id⊢ 𝓤 _) $
+      pick ! (λ zs.
       split ! $ move ! (1 ∷ []) $ heard ! (r ≡ linkBehind newest entries write) (λ e. fsplit ! $ drop ! $ fsplit ! $
-          drop ! $ fsplit ! $ drop ! $ move ! (1 ∷ []) $ split ! $ move ! (1 ∷ []) $
-          peeks ! L.the-row (Is L.the-row) (shows 𝓤 H A L.the-row) r (u ∷ []) (λ is. drop ! $ split ! $
-          move ! (1 ∷ []) $ at-once ! $ show ! (link-behind-after u) (tt) $
-          check ! (Value.is-value L.the-type L′.the-laws r (linkBehind newest entries write) u (e) is) $
-          keep ! (1 ∷ []) $ done !))))
+      drop ! $ fsplit ! $ drop ! $ move ! (1 ∷ []) $ split ! $ move ! (1 ∷ []) $
+      peeks ! L.the-row (Is L.the-row) (shows 𝓤 H A L.the-row) r (u ∷ []) (λ is. drop ! $ split ! $
+      move ! (1 ∷ []) $ at-once ! $ show ! (link-behind-after u) (tt) $
+      check ! (Value.is-value L.the-type L′.the-laws r (linkBehind newest entries write) u (e) is) $
+      keep ! (1 ∷ []) $ done !))))
 
 -- ---- `make-newest`
 module _ {M : Type 1} (𝓤 : URA M) (H : Heap 𝓤) (A : Atoms 𝓤) (mem : Memory → SProp 𝓤) (run : Routine → Fun 𝓤) where
@@ -265,8 +315,20 @@ module _ {M : Type 1} (𝓤 : URA M) (H : Heap 𝓤) (A : Atoms 𝓤) (W : Given
   args-make-newest = (record { ptr = (b-newest, o-newest); name = δ-newest; now = newest }, (write, tt))
 
   abbrev pub to-make-newest : MakeNewest 𝓤 H A mem run .Ghost
-  to-make-newest = (((κ-newest, tt), (q-newest, tt), tt, args-make-newest, (sliceVal (b-newest, o-newest)
-      m-newest ∷ [], (Value.mach Y.the-type Y′.the-laws write ∷ [], tt))), tt)
+  to-make-newest = (
+    (
+      (κ-newest, tt),
+      (q-newest, tt),
+      tt,
+      args-make-newest,
+      (
+        sliceVal (b-newest, o-newest)
+            m-newest ∷ [],
+        (Value.mach Y.the-type Y′.the-laws write ∷ [], tt),
+      ),
+    ),
+    tt,
+  )
 
   abbrev pub make-newest-lent : List (Item 𝓤)
   make-newest-lent = ‵ (flft κ-newest q-newest) ∷ ‵ (holds u16 b-newest o-newest m-newest κ-newest δ-newest newest) ∷ []
@@ -275,8 +337,8 @@ module _ {M : Type 1} (𝓤 : URA M) (H : Heap 𝓤) (A : Atoms 𝓤) (W : Given
       → ent 𝓤 (⋆ 𝓤 H A make-newest-lent) (MakeNewest 𝓤 H A mem run .pre to-make-newest)
   make-newest-goes g-write =
       qed W make-newest-lent ∵ nothing ! $ move ! (1 ∷ 0 ∷ []) $ join ! $ nothing ! $
-          owned ! Y.the-row (Is Y.the-row) (LL.makes Y.the-type Y′.the-plain 𝓤 H A) write _ g-write $ fjoin ! $
-          move ! (2 ∷ 0 ∷ []) $ fjoin ! $ move ! (1 ∷ 0 ∷ []) $ join ! $ nothing ! $ move ! (1 ∷ 0 ∷ []) $ done !
+      owned ! Y.the-row (Is Y.the-row) (LL.makes Y.the-type Y′.the-plain 𝓤 H A) write _ g-write $ fjoin ! $
+      move ! (2 ∷ 0 ∷ []) $ fjoin ! $ move ! (1 ∷ 0 ∷ []) $ join ! $ nothing ! $ move ! (1 ∷ 0 ∷ []) $ done !
 
   abbrev pub make-newest-said : Val → List ℕ → Type 0
   make-newest-said u x = (u ≡ vunit) × ((x ≡ makeNewest newest write) × (length (x) ≡ length newest))
@@ -290,16 +352,16 @@ module _ {M : Type 1} (𝓤 : URA M) (H : Heap 𝓤) (A : Atoms 𝓤) (W : Given
   make-newest-gives u =
       qed W (raw (MakeNewest 𝓤 H A mem run .post to-make-newest u) ∷ []) ∵ updating ! $
       use1 W (later (some (λ (r : Unit {0}). ((‵ (flft κ-newest q-newest) ⊛ ‵ ftrue) ⊛ ‵ (Nothing .own r (u ∷ [])))
-          ⊛ raw (ensured 𝓤 H A make-newest.ended (make-newest.clauses 𝓤 H A mem run) (κ-newest, tt)
-          args-make-newest tt r)))) (id⊢ 𝓤 _) $ await ! tt $ pick ! (λ r.
+      ⊛ raw (ensured 𝓤 H A make-newest.ended (make-newest.clauses 𝓤 H A mem run) (κ-newest, tt)
+      args-make-newest tt r)))) (id⊢ 𝓤 _) $ await ! tt $ pick ! (λ r.
       split ! $ move ! (1 ∷ []) $
-          use1 W (some (λ (zs : (List ℕ × (Unit {0} × Unit {0}))). ‵ (lasts make-newest.ended (κ-newest, tt)
-          args-make-newest zs) ⊛ raw (fact 𝓤 (zs .0 ≡ makeNewest newest write)))) (id⊢ 𝓤 _) $ pick ! (λ zs.
+      use1 W (some (λ (zs : (List ℕ × (Unit {0} × Unit {0}))). ‵ (lasts make-newest.ended (κ-newest, tt)
+      args-make-newest zs) ⊛ raw (fact 𝓤 (zs .0 ≡ makeNewest newest write)))) (id⊢ 𝓤 _) $ pick ! (λ zs.
       split ! $ move ! (1 ∷ []) $ heard ! (zs .0 ≡ makeNewest newest write) (λ e. fsplit ! $ fsplit ! $
-          move ! (1 ∷ []) $ feqL ! (λ n-newest. move ! (1 ∷ []) $ fsplit ! $ drop ! $ move ! (2 ∷ []) $ split ! $
-          move ! (1 ∷ []) $ feqL ! (λ w. split ! $ move ! (1 ∷ []) $ at-once ! $
-          show ! (make-newest-after u) (zs .0) $ check ! ((ap only w, (e, n-newest))) $ keep ! (1 ∷ 3 ∷ []) $
-          done !)))))
+      move ! (1 ∷ []) $ feqL ! (λ n-newest. move ! (1 ∷ []) $ fsplit ! $ drop ! $ move ! (2 ∷ []) $ split ! $
+      move ! (1 ∷ []) $ feqL ! (λ w. split ! $ move ! (1 ∷ []) $ at-once ! $
+      show ! (make-newest-after u) (zs .0) $ check ! ((ap only w, (e, n-newest))) $ keep ! (1 ∷ 3 ∷ []) $
+      done !)))))
 
 -- ---- `place-write`
 module _ {M : Type 1} (𝓤 : URA M) (H : Heap 𝓤) (A : Atoms 𝓤) (mem : Memory → SProp 𝓤) (run : Routine → Fun 𝓤) where
@@ -311,13 +373,37 @@ module _ {M : Type 1} (𝓤 : URA M) (H : Heap 𝓤) (A : Atoms 𝓤) (W : Given
     (b-newest o-newest m-newest : ℕ) (b-versions o-versions m-versions : ℕ) (κ-newest : Lft) (q-newest : Share)
     (δ-newest : GName) (κ-versions : Lft) (q-versions : Share) (δ-versions : GName) where
   abbrev args-place-write : (RefT (List ℕ) × (RefT (List Version) × (Write × Unit {0})))
-  args-place-write = (record { ptr = (b-newest, o-newest); name = δ-newest; now = newest }, (record { ptr =
-      (b-versions, o-versions); name = δ-versions; now = versions }, (write, tt)))
+  args-place-write = (
+    record { ptr = (b-newest, o-newest); name = δ-newest; now = newest },
+    (
+      record {
+        ptr =
+            (b-versions, o-versions);
+        name = δ-versions;
+        now = versions;
+      },
+      (write, tt),
+    ),
+  )
 
   abbrev pub to-place-write : PlaceWrite 𝓤 H A mem run .Ghost
-  to-place-write = (((κ-newest, (κ-versions, tt)), (q-newest, (q-versions, tt)), tt, args-place-write, (sliceVal
-      (b-newest, o-newest) m-newest ∷ [], (sliceVal (b-versions, o-versions) m-versions ∷ [],
-      (Value.mach Y.the-type Y′.the-laws write ∷ [], tt)))), tt)
+  to-place-write = (
+    (
+      (κ-newest, (κ-versions, tt)),
+      (q-newest, (q-versions, tt)),
+      tt,
+      args-place-write,
+      (
+        sliceVal
+            (b-newest, o-newest) m-newest ∷ [],
+        (
+          sliceVal (b-versions, o-versions) m-versions ∷ [],
+          (Value.mach Y.the-type Y′.the-laws write ∷ [], tt),
+        ),
+      ),
+    ),
+    tt,
+  )
 
   abbrev pub place-write-lent : List (Item 𝓤)
   place-write-lent = ‵ (flft κ-newest q-newest) ∷ ‵ (holds u16 b-newest o-newest m-newest κ-newest δ-newest newest)
@@ -328,9 +414,9 @@ module _ {M : Type 1} (𝓤 : URA M) (H : Heap 𝓤) (A : Atoms 𝓤) (W : Given
       → ent 𝓤 (⋆ 𝓤 H A place-write-lent) (PlaceWrite 𝓤 H A mem run .pre to-place-write)
   place-write-goes g-write =
       qed W place-write-lent ∵ nothing ! $ move ! (3 ∷ 0 ∷ []) $ join ! $ move ! (1 ∷ 0 ∷ []) $ join ! $ nothing ! $
-          owned ! Y.the-row (Is Y.the-row) (LL.makes Y.the-type Y′.the-plain 𝓤 H A) write _ g-write $ fjoin ! $
-          move ! (3 ∷ 0 ∷ []) $ fjoin ! $ move ! (2 ∷ 0 ∷ []) $ fjoin ! $ move ! (1 ∷ 0 ∷ []) $ join ! $ nothing ! $
-          move ! (1 ∷ 0 ∷ []) $ done !
+      owned ! Y.the-row (Is Y.the-row) (LL.makes Y.the-type Y′.the-plain 𝓤 H A) write _ g-write $ fjoin ! $
+      move ! (3 ∷ 0 ∷ []) $ fjoin ! $ move ! (2 ∷ 0 ∷ []) $ fjoin ! $ move ! (1 ∷ 0 ∷ []) $ join ! $ nothing ! $
+      move ! (1 ∷ 0 ∷ []) $ done !
 
   abbrev pub place-write-said : Val → ((List ℕ) × (List Version)) → Type 0
   place-write-said u x = (u ≡ vunit) × ((x .0 ≡ makeNewest newest write) × ((x .1 ≡ linkOf versions
@@ -347,20 +433,20 @@ module _ {M : Type 1} (𝓤 : URA M) (H : Heap 𝓤) (A : Atoms 𝓤) (W : Given
   place-write-gives u =
       qed W (raw (PlaceWrite 𝓤 H A mem run .post to-place-write u) ∷ []) ∵ updating ! $
       use1 W (later (some (λ (r : Unit {0}). ((‵ (flft κ-newest q-newest) ⊛ ‵ (flft κ-versions q-versions) ⊛ ‵ ftrue)
-          ⊛ ‵ (Nothing .own r (u ∷ []))) ⊛ raw (ensured 𝓤 H A place-write.ended (place-write.clauses 𝓤 H A mem run)
-          (κ-newest, (κ-versions, tt)) args-place-write tt r)))) (id⊢ 𝓤 _) $ await ! tt $ pick ! (λ r.
+      ⊛ ‵ (Nothing .own r (u ∷ []))) ⊛ raw (ensured 𝓤 H A place-write.ended (place-write.clauses 𝓤 H A mem run)
+      (κ-newest, (κ-versions, tt)) args-place-write tt r)))) (id⊢ 𝓤 _) $ await ! tt $ pick ! (λ r.
       split ! $ move ! (1 ∷ []) $
-          use1 W (some (λ (zs : (List ℕ × (List Version × (Unit {0} × Unit {0})))). ‵ (lasts place-write.ended
-          (κ-newest, (κ-versions, tt)) args-place-write zs) ⊛ raw (fact 𝓤 ((zs .0 ≡ makeNewest newest write) ×
-          (zs .1 .0 ≡ linkOf versions (linkBehind newest (length versions) write)))))) (id⊢ 𝓤 _) $ pick ! (λ zs.
+      use1 W (some (λ (zs : (List ℕ × (List Version × (Unit {0} × Unit {0})))). ‵ (lasts place-write.ended
+      (κ-newest, (κ-versions, tt)) args-place-write zs) ⊛ raw (fact 𝓤 ((zs .0 ≡ makeNewest newest write) ×
+      (zs .1 .0 ≡ linkOf versions (linkBehind newest (length versions) write)))))) (id⊢ 𝓤 _) $ pick ! (λ zs.
       split ! $ move ! (1 ∷ []) $
-          heard ! ((zs .0 ≡ makeNewest newest write) × (zs .1 .0 ≡ linkOf versions (linkBehind newest
-          (length versions) write))) (λ e. fsplit ! $ fsplit ! $ move ! (1 ∷ []) $
-          feqL ! (λ n-newest. move ! (1 ∷ []) $ fsplit ! $ fsplit ! $ move ! (1 ∷ []) $
-          feqL ! (λ n-versions. move ! (1 ∷ []) $ fsplit ! $ drop ! $ move ! (3 ∷ []) $ split ! $ move ! (1 ∷ []) $
-          feqL ! (λ w. split ! $ move ! (1 ∷ []) $ split ! $ move ! (1 ∷ []) $ at-once ! $
-          show ! (place-write-after u) ((zs .0, zs .1 .0)) $
-          check ! ((ap only w, (e .0, (e .1, (n-newest, n-versions))))) $ keep ! (2 ∷ 5 ∷ 1 ∷ 4 ∷ []) $ done !))))))
+      heard ! ((zs .0 ≡ makeNewest newest write) × (zs .1 .0 ≡ linkOf versions (linkBehind newest
+      (length versions) write))) (λ e. fsplit ! $ fsplit ! $ move ! (1 ∷ []) $
+      feqL ! (λ n-newest. move ! (1 ∷ []) $ fsplit ! $ fsplit ! $ move ! (1 ∷ []) $
+      feqL ! (λ n-versions. move ! (1 ∷ []) $ fsplit ! $ drop ! $ move ! (3 ∷ []) $ split ! $ move ! (1 ∷ []) $
+      feqL ! (λ w. split ! $ move ! (1 ∷ []) $ split ! $ move ! (1 ∷ []) $ at-once ! $
+      show ! (place-write-after u) ((zs .0, zs .1 .0)) $
+      check ! ((ap only w, (e .0, (e .1, (n-newest, n-versions))))) $ keep ! (2 ∷ 5 ∷ 1 ∷ 4 ∷ []) $ done !))))))
 
 -- ---- `placed`
 module _ {M : Type 1} (𝓤 : URA M) (H : Heap 𝓤) (A : Atoms 𝓤) (mem : Memory → SProp 𝓤) (run : Routine → Fun 𝓤) where
@@ -368,13 +454,27 @@ module _ {M : Type 1} (𝓤 : URA M) (H : Heap 𝓤) (A : Atoms 𝓤) (mem : Mem
   PlacedCall = tripleOf 𝓤 H A placed.signature (placed.spec 𝓤 H A mem run)
 
 module _ {M : Type 1} (𝓤 : URA M) (H : Heap 𝓤) (A : Atoms 𝓤) (W : Given 𝓤 H A) (mem : Memory
-    → SProp 𝓤) (run : Routine → Fun 𝓤) (state : State) (p : ℕ) (plan : Placing)   where
+    → SProp 𝓤) (run : Routine → Fun 𝓤) (state : State) (p : ℕ) (plan : Placing) where
   abbrev args-placed : (State × (ℕ × (Placing × Unit {0})))
   args-placed = (state, (p, (plan, tt)))
 
   abbrev pub to-placed : PlacedCall 𝓤 H A mem run .Ghost
-  to-placed = ((tt, tt, tt, args-placed, (Value.mach S.the-type S′.the-laws state ∷ [], (vint w64 p ∷ [],
-      (Value.mach P.the-type P′.the-laws plan ∷ [], tt)))), tt)
+  to-placed = (
+    (
+      tt,
+      tt,
+      tt,
+      args-placed,
+      (
+        Value.mach S.the-type S′.the-laws state ∷ [],
+        (
+          vint w64 p ∷ [],
+          (Value.mach P.the-type P′.the-laws plan ∷ [], tt),
+        ),
+      ),
+    ),
+    tt,
+  )
 
   abbrev pub placed-lent : List (Item 𝓤)
   placed-lent = []
@@ -383,10 +483,10 @@ module _ {M : Type 1} (𝓤 : URA M) (H : Heap 𝓤) (A : Atoms 𝓤) (W : Given
       → ent 𝓤 (⋆ 𝓤 H A placed-lent) (PlacedCall 𝓤 H A mem run .pre to-placed)
   placed-goes g-state g-p g-plan =
       qed W placed-lent ∵ nothing ! $ nothing ! $
-          owned ! P.the-row (Is P.the-row) (LL.makes P.the-type P′.the-plain 𝓤 H A) plan _ g-plan $ fjoin ! $
-          owned ! usize (Is usize) (uint-makes 𝓤 H A W w64) p _ (refl, g-p) $ fjoin ! $
-          owned ! S.the-row (Is S.the-row) (LL.makes S.the-type S′.the-plain 𝓤 H A) state _ g-state $ fjoin ! $
-          move ! (1 ∷ 0 ∷ []) $ join ! $ nothing ! $ move ! (1 ∷ 0 ∷ []) $ done !
+      owned ! P.the-row (Is P.the-row) (LL.makes P.the-type P′.the-plain 𝓤 H A) plan _ g-plan $ fjoin ! $
+      owned ! usize (Is usize) (uint-makes 𝓤 H A W w64) p _ (refl, g-p) $ fjoin ! $
+      owned ! S.the-row (Is S.the-row) (LL.makes S.the-type S′.the-plain 𝓤 H A) state _ g-state $ fjoin ! $
+      move ! (1 ∷ 0 ∷ []) $ join ! $ nothing ! $ move ! (1 ∷ 0 ∷ []) $ done !
 
   abbrev pub placed-said : Val → Unit {0} → Type 0
   placed-said u x = Value.IsValue Z.the-type Z′.the-laws (placedAs state p plan) u
@@ -398,14 +498,13 @@ module _ {M : Type 1} (𝓤 : URA M) (H : Heap 𝓤) (A : Atoms 𝓤) (W : Given
   placed-gives u =
       qed W (raw (PlacedCall 𝓤 H A mem run .post to-placed u) ∷ []) ∵ updating ! $
       use1 W (later (some (λ (r : Stepped). ((‵ ftrue) ⊛ ‵ (Z.the-row .own r (u ∷ []))) ⊛ raw
-          (ensured 𝓤 H A placed.ended (placed.clauses 𝓤 H A mem run) tt args-placed tt r)))) (id⊢ 𝓤 _) $ await ! tt $
-          pick ! (λ r.
+      (ensured 𝓤 H A placed.ended (placed.clauses 𝓤 H A mem run) tt args-placed tt r)))) (id⊢ 𝓤 _) $ await ! tt $
+      pick ! (λ r.
       split ! $ move ! (1 ∷ []) $
-          use1 W (some (λ (zs : (Unit {0} × (Unit {0} × (Unit {0} × Unit {0})))). ‵
-          (lasts placed.ended tt args-placed zs) ⊛ raw (fact 𝓤 (r ≡ placedAs state p plan)))) (id⊢ 𝓤 _) $ pick ! (λ zs.
+      use1 W (some (λ (zs : (Unit {0} × (Unit {0} × (Unit {0} × Unit {0})))). ‵
+      (lasts placed.ended tt args-placed zs) ⊛ raw (fact 𝓤 (r ≡ placedAs state p plan)))) (id⊢ 𝓤 _) $ pick ! (λ zs.
       split ! $ move ! (1 ∷ []) $ heard ! (r ≡ placedAs state p plan) (λ e. fsplit ! $ drop ! $ fsplit ! $ drop ! $
-          fsplit ! $ drop ! $ move ! (1 ∷ []) $ split ! $ move ! (1 ∷ []) $
-          peeks ! Z.the-row (Is Z.the-row) (shows 𝓤 H A Z.the-row) r (u ∷ []) (λ is. drop ! $ at-once ! $
-          show ! (placed-after u) (tt) $
-          check ! (Value.is-value Z.the-type Z′.the-laws r (placedAs state p plan) u (e) is) $ keep ! ([]) $ done !))))
-
+      fsplit ! $ drop ! $ move ! (1 ∷ []) $ split ! $ move ! (1 ∷ []) $
+      peeks ! Z.the-row (Is Z.the-row) (shows 𝓤 H A Z.the-row) r (u ∷ []) (λ is. drop ! $ at-once ! $
+      show ! (placed-after u) (tt) $
+      check ! (Value.is-value Z.the-type Z′.the-laws r (placedAs state p plan) u (e) is) $ keep ! ([]) $ done !))))

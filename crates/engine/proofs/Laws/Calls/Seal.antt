@@ -107,7 +107,7 @@ module _ {M : Type 1} (𝓤 : URA M) (H : Heap 𝓤) (A : Atoms 𝓤) (mem : Mem
   Slots = tripleOf 𝓤 H A slots.signature (slots.spec 𝓤 H A mem run)
 
 module _ {M : Type 1} (𝓤 : URA M) (H : Heap 𝓤) (A : Atoms 𝓤) (W : Given 𝓤 H A) (mem : Memory
-    → SProp 𝓤) (run : Routine → Fun 𝓤) (state : State)   where
+    → SProp 𝓤) (run : Routine → Fun 𝓤) (state : State) where
   abbrev args-slots : (State × Unit {0})
   args-slots = (state, tt)
 
@@ -121,8 +121,8 @@ module _ {M : Type 1} (𝓤 : URA M) (H : Heap 𝓤) (A : Atoms 𝓤) (W : Given
       → ent 𝓤 (⋆ 𝓤 H A slots-lent) (Slots 𝓤 H A mem run .pre to-slots)
   slots-goes g-state =
       qed W slots-lent ∵ nothing ! $ nothing ! $
-          owned ! S.the-row (Is S.the-row) (LL.makes S.the-type S′.the-plain 𝓤 H A) state _ g-state $ fjoin ! $
-          move ! (1 ∷ 0 ∷ []) $ join ! $ nothing ! $ move ! (1 ∷ 0 ∷ []) $ done !
+      owned ! S.the-row (Is S.the-row) (LL.makes S.the-type S′.the-plain 𝓤 H A) state _ g-state $ fjoin ! $
+      move ! (1 ∷ 0 ∷ []) $ join ! $ nothing ! $ move ! (1 ∷ 0 ∷ []) $ done !
 
   abbrev pub slots-said : Val → Unit {0} → Type 0
   slots-said u x = (u ≡ vint w64 (4 * (state .size))) × (4 * (state .size) < 2 ^ 64)
@@ -134,15 +134,15 @@ module _ {M : Type 1} (𝓤 : URA M) (H : Heap 𝓤) (A : Atoms 𝓤) (W : Given
   slots-gives u =
       qed W (raw (Slots 𝓤 H A mem run .post to-slots u) ∷ []) ∵ updating ! $
       use1 W (later (some (λ (r : ℕ). ((‵ ftrue) ⊛ ‵ (usize .own r (u ∷ []))) ⊛ raw (ensured 𝓤 H A slots.ended
-          (slots.clauses 𝓤 H A mem run) tt args-slots tt r)))) (id⊢ 𝓤 _) $ await ! tt $ pick ! (λ r.
+      (slots.clauses 𝓤 H A mem run) tt args-slots tt r)))) (id⊢ 𝓤 _) $ await ! tt $ pick ! (λ r.
       split ! $ move ! (1 ∷ []) $
-          use1 W (some (λ (zs : (Unit {0} × Unit {0})). ‵ (lasts slots.ended tt args-slots zs) ⊛ raw (fact 𝓤 (r ≡ 4 *
-          (state .size))))) (id⊢ 𝓤 _) $ pick ! (λ zs.
+      use1 W (some (λ (zs : (Unit {0} × Unit {0})). ‵ (lasts slots.ended tt args-slots zs) ⊛ raw (fact 𝓤 (r ≡ 4 *
+      (state .size))))) (id⊢ 𝓤 _) $ pick ! (λ zs.
       split ! $ move ! (1 ∷ []) $ heard ! (r ≡ 4 * (state .size)) (λ e. fsplit ! $ drop ! $ move ! (1 ∷ []) $
-          split ! $ move ! (1 ∷ []) $ peeks ! usize (Is usize) (shows 𝓤 H A usize) r (u ∷ []) (λ is. drop ! $
-          at-once ! $ show ! (slots-after u) (tt) $
-          check ! ((ap only (is .0) ∙ ap (vint w64) (e), subst (λ (z : ℕ). z < 2 ^ 64) (e) (is .1))) $ keep ! ([]) $
-          done !))))
+      split ! $ move ! (1 ∷ []) $ peeks ! usize (Is usize) (shows 𝓤 H A usize) r (u ∷ []) (λ is. drop ! $
+      at-once ! $ show ! (slots-after u) (tt) $
+      check ! ((ap only (is .0) ∙ ap (vint w64) (e), subst (λ (z : ℕ). z < 2 ^ 64) (e) (is .1))) $ keep ! ([]) $
+      done !))))
 
 -- ---- `sealing`
 module _ {M : Type 1} (𝓤 : URA M) (H : Heap 𝓤) (A : Atoms 𝓤) (mem : Memory → SProp 𝓤) (run : Routine → Fun 𝓤) where
@@ -150,13 +150,27 @@ module _ {M : Type 1} (𝓤 : URA M) (H : Heap 𝓤) (A : Atoms 𝓤) (mem : Mem
   SealingCall = tripleOf 𝓤 H A sealing.signature (sealing.spec 𝓤 H A mem run)
 
 module _ {M : Type 1} (𝓤 : URA M) (H : Heap 𝓤) (A : Atoms 𝓤) (W : Given 𝓤 H A) (mem : Memory
-    → SProp 𝓤) (run : Routine → Fun 𝓤) (state : State) (stored : ℕ) (slots : ℕ) (entries : ℕ) (sound : Bool)   where
+    → SProp 𝓤) (run : Routine → Fun 𝓤) (state : State) (stored : ℕ) (slots : ℕ) (entries : ℕ) (sound : Bool) where
   abbrev args-sealing : (State × (ℕ × (ℕ × (ℕ × (Bool × Unit {0})))))
   args-sealing = (state, (stored, (slots, (entries, (sound, tt)))))
 
   abbrev pub to-sealing : SealingCall 𝓤 H A mem run .Ghost
-  to-sealing = ((tt, tt, tt, args-sealing, (Value.mach S.the-type S′.the-laws state ∷ [], (vint w64 stored ∷ [],
-      (vint w64 slots ∷ [], (vint w64 entries ∷ [], (vbool sound ∷ [], tt)))))), tt)
+  to-sealing = (
+    (
+      tt,
+      tt,
+      tt,
+      args-sealing,
+      (
+        Value.mach S.the-type S′.the-laws state ∷ [],
+        (
+          vint w64 stored ∷ [],
+          (vint w64 slots ∷ [], (vint w64 entries ∷ [], (vbool sound ∷ [], tt))),
+        ),
+      ),
+    ),
+    tt,
+  )
 
   abbrev pub sealing-lent : List (Item 𝓤)
   sealing-lent = []
@@ -165,11 +179,11 @@ module _ {M : Type 1} (𝓤 : URA M) (H : Heap 𝓤) (A : Atoms 𝓤) (W : Given
       → ent 𝓤 (⋆ 𝓤 H A sealing-lent) (SealingCall 𝓤 H A mem run .pre to-sealing)
   sealing-goes g-state g-stored g-slots g-entries =
       qed W sealing-lent ∵ nothing ! $ nothing ! $ owned ! bool (Is bool) (bool-makes 𝓤 H A W) sound _ refl $
-          fjoin ! $ owned ! usize (Is usize) (uint-makes 𝓤 H A W w64) entries _ (refl, g-entries) $ fjoin ! $
-          owned ! usize (Is usize) (uint-makes 𝓤 H A W w64) slots _ (refl, g-slots) $ fjoin ! $
-          owned ! usize (Is usize) (uint-makes 𝓤 H A W w64) stored _ (refl, g-stored) $ fjoin ! $
-          owned ! S.the-row (Is S.the-row) (LL.makes S.the-type S′.the-plain 𝓤 H A) state _ g-state $ fjoin ! $
-          move ! (1 ∷ 0 ∷ []) $ join ! $ nothing ! $ move ! (1 ∷ 0 ∷ []) $ done !
+      fjoin ! $ owned ! usize (Is usize) (uint-makes 𝓤 H A W w64) entries _ (refl, g-entries) $ fjoin ! $
+      owned ! usize (Is usize) (uint-makes 𝓤 H A W w64) slots _ (refl, g-slots) $ fjoin ! $
+      owned ! usize (Is usize) (uint-makes 𝓤 H A W w64) stored _ (refl, g-stored) $ fjoin ! $
+      owned ! S.the-row (Is S.the-row) (LL.makes S.the-type S′.the-plain 𝓤 H A) state _ g-state $ fjoin ! $
+      move ! (1 ∷ 0 ∷ []) $ join ! $ nothing ! $ move ! (1 ∷ 0 ∷ []) $ done !
 
   abbrev pub sealing-said : Val → Unit {0} → Type 0
   sealing-said u x = Value.IsValue Q.the-type Q′.the-laws (sealingOf state stored slots entries sound) u
@@ -181,18 +195,18 @@ module _ {M : Type 1} (𝓤 : URA M) (H : Heap 𝓤) (A : Atoms 𝓤) (W : Given
   sealing-gives u =
       qed W (raw (SealingCall 𝓤 H A mem run .post to-sealing u) ∷ []) ∵ updating ! $
       use1 W (later (some (λ (r : Sealing). ((‵ ftrue) ⊛ ‵ (Q.the-row .own r (u ∷ []))) ⊛ raw
-          (ensured 𝓤 H A sealing.ended (sealing.clauses 𝓤 H A mem run) tt args-sealing tt r)))) (id⊢ 𝓤 _) $
-          await ! tt $ pick ! (λ r.
+      (ensured 𝓤 H A sealing.ended (sealing.clauses 𝓤 H A mem run) tt args-sealing tt r)))) (id⊢ 𝓤 _) $
+      await ! tt $ pick ! (λ r.
       split ! $ move ! (1 ∷ []) $
-          use1 W (some (λ (zs : (Unit {0} × (Unit {0} × (Unit {0} × (Unit {0} × (Unit {0} × Unit {0})))))). ‵
-          (lasts sealing.ended tt args-sealing zs) ⊛ raw (fact 𝓤 (r ≡ sealingOf state stored slots entries sound))))
-          (id⊢ 𝓤 _) $ pick ! (λ zs.
+      use1 W (some (λ (zs : (Unit {0} × (Unit {0} × (Unit {0} × (Unit {0} × (Unit {0} × Unit {0})))))). ‵
+      (lasts sealing.ended tt args-sealing zs) ⊛ raw (fact 𝓤 (r ≡ sealingOf state stored slots entries sound))))
+      (id⊢ 𝓤 _) $ pick ! (λ zs.
       split ! $ move ! (1 ∷ []) $ heard ! (r ≡ sealingOf state stored slots entries sound) (λ e. fsplit ! $ drop ! $
-          fsplit ! $ drop ! $ fsplit ! $ drop ! $ fsplit ! $ drop ! $ fsplit ! $ drop ! $ move ! (1 ∷ []) $ split ! $
-          move ! (1 ∷ []) $ peeks ! Q.the-row (Is Q.the-row) (shows 𝓤 H A Q.the-row) r (u ∷ []) (λ is. drop ! $
-          at-once ! $ show ! (sealing-after u) (tt) $
-          check ! (Value.is-value Q.the-type Q′.the-laws r (sealingOf state stored slots entries sound) u (e) is) $
-          keep ! ([]) $ done !))))
+      fsplit ! $ drop ! $ fsplit ! $ drop ! $ fsplit ! $ drop ! $ fsplit ! $ drop ! $ move ! (1 ∷ []) $ split ! $
+      move ! (1 ∷ []) $ peeks ! Q.the-row (Is Q.the-row) (shows 𝓤 H A Q.the-row) r (u ∷ []) (λ is. drop ! $
+      at-once ! $ show ! (sealing-after u) (tt) $
+      check ! (Value.is-value Q.the-type Q′.the-laws r (sealingOf state stored slots entries sound) u (e) is) $
+      keep ! ([]) $ done !))))
 
 -- ---- `closes`
 module _ {M : Type 1} (𝓤 : URA M) (H : Heap 𝓤) (A : Atoms 𝓤) (mem : Memory → SProp 𝓤) (run : Routine → Fun 𝓤) where
@@ -200,7 +214,7 @@ module _ {M : Type 1} (𝓤 : URA M) (H : Heap 𝓤) (A : Atoms 𝓤) (mem : Mem
   Closes = tripleOf 𝓤 H A closes.signature (closes.spec 𝓤 H A mem run)
 
 module _ {M : Type 1} (𝓤 : URA M) (H : Heap 𝓤) (A : Atoms 𝓤) (W : Given 𝓤 H A) (mem : Memory
-    → SProp 𝓤) (run : Routine → Fun 𝓤) (sealing : Sealing)   where
+    → SProp 𝓤) (run : Routine → Fun 𝓤) (sealing : Sealing) where
   abbrev args-closes : (Sealing × Unit {0})
   args-closes = (sealing, tt)
 
@@ -214,8 +228,8 @@ module _ {M : Type 1} (𝓤 : URA M) (H : Heap 𝓤) (A : Atoms 𝓤) (W : Given
       → ent 𝓤 (⋆ 𝓤 H A closes-lent) (Closes 𝓤 H A mem run .pre to-closes)
   closes-goes g-sealing =
       qed W closes-lent ∵ nothing ! $ nothing ! $
-          owned ! Q.the-row (Is Q.the-row) (LL.makes Q.the-type Q′.the-plain 𝓤 H A) sealing _ g-sealing $ fjoin ! $
-          move ! (1 ∷ 0 ∷ []) $ join ! $ nothing ! $ move ! (1 ∷ 0 ∷ []) $ done !
+      owned ! Q.the-row (Is Q.the-row) (LL.makes Q.the-type Q′.the-plain 𝓤 H A) sealing _ g-sealing $ fjoin ! $
+      move ! (1 ∷ 0 ∷ []) $ join ! $ nothing ! $ move ! (1 ∷ 0 ∷ []) $ done !
 
   abbrev pub closes-said : Val → Unit {0} → Type 0
   closes-said u x = u ≡ vbool (isAccepted (sealing .verdict))
@@ -227,14 +241,14 @@ module _ {M : Type 1} (𝓤 : URA M) (H : Heap 𝓤) (A : Atoms 𝓤) (W : Given
   closes-gives u =
       qed W (raw (Closes 𝓤 H A mem run .post to-closes u) ∷ []) ∵ updating ! $
       use1 W (later (some (λ (r : Bool). ((‵ ftrue) ⊛ ‵ (bool .own r (u ∷ []))) ⊛ raw (ensured 𝓤 H A closes.ended
-          (closes.clauses 𝓤 H A mem run) tt args-closes tt r)))) (id⊢ 𝓤 _) $ await ! tt $ pick ! (λ r.
+      (closes.clauses 𝓤 H A mem run) tt args-closes tt r)))) (id⊢ 𝓤 _) $ await ! tt $ pick ! (λ r.
       split ! $ move ! (1 ∷ []) $
-          use1 W (some (λ (zs : (Unit {0} × Unit {0})). ‵ (lasts closes.ended tt args-closes zs) ⊛ raw (fact 𝓤
-          (r ≡ isAccepted (sealing .verdict))))) (id⊢ 𝓤 _) $ pick ! (λ zs.
+      use1 W (some (λ (zs : (Unit {0} × Unit {0})). ‵ (lasts closes.ended tt args-closes zs) ⊛ raw (fact 𝓤
+      (r ≡ isAccepted (sealing .verdict))))) (id⊢ 𝓤 _) $ pick ! (λ zs.
       split ! $ move ! (1 ∷ []) $ heard ! (r ≡ isAccepted (sealing .verdict)) (λ e. fsplit ! $ drop ! $
-          move ! (1 ∷ []) $ split ! $ move ! (1 ∷ []) $ peeks ! bool (Is bool) (shows 𝓤 H A bool) r (u ∷ []) (λ is.
-          drop ! $ at-once ! $ show ! (closes-after u) (tt) $ check ! (ap only is ∙ ap vbool (e)) $ keep ! ([]) $
-          done !))))
+      move ! (1 ∷ []) $ split ! $ move ! (1 ∷ []) $ peeks ! bool (Is bool) (shows 𝓤 H A bool) r (u ∷ []) (λ is.
+      drop ! $ at-once ! $ show ! (closes-after u) (tt) $ check ! (ap only is ∙ ap vbool (e)) $ keep ! ([]) $
+      done !))))
 
 -- ---- `closed`
 module _ {M : Type 1} (𝓤 : URA M) (H : Heap 𝓤) (A : Atoms 𝓤) (mem : Memory → SProp 𝓤) (run : Routine → Fun 𝓤) where
@@ -242,13 +256,24 @@ module _ {M : Type 1} (𝓤 : URA M) (H : Heap 𝓤) (A : Atoms 𝓤) (mem : Mem
   ClosedCall = tripleOf 𝓤 H A closed.signature (closed.spec 𝓤 H A mem run)
 
 module _ {M : Type 1} (𝓤 : URA M) (H : Heap 𝓤) (A : Atoms 𝓤) (W : Given 𝓤 H A) (mem : Memory
-    → SProp 𝓤) (run : Routine → Fun 𝓤) (state : State) (sealing : Sealing)   where
+    → SProp 𝓤) (run : Routine → Fun 𝓤) (state : State) (sealing : Sealing) where
   abbrev args-closed : (State × (Sealing × Unit {0}))
   args-closed = (state, (sealing, tt))
 
   abbrev pub to-closed : ClosedCall 𝓤 H A mem run .Ghost
-  to-closed = ((tt, tt, tt, args-closed, (Value.mach S.the-type S′.the-laws state ∷ [],
-      (Value.mach Q.the-type Q′.the-laws sealing ∷ [], tt))), tt)
+  to-closed = (
+    (
+      tt,
+      tt,
+      tt,
+      args-closed,
+      (
+        Value.mach S.the-type S′.the-laws state ∷ [],
+        (Value.mach Q.the-type Q′.the-laws sealing ∷ [], tt),
+      ),
+    ),
+    tt,
+  )
 
   abbrev pub closed-lent : List (Item 𝓤)
   closed-lent = []
@@ -257,9 +282,9 @@ module _ {M : Type 1} (𝓤 : URA M) (H : Heap 𝓤) (A : Atoms 𝓤) (W : Given
       → ent 𝓤 (⋆ 𝓤 H A closed-lent) (ClosedCall 𝓤 H A mem run .pre to-closed)
   closed-goes g-state g-sealing =
       qed W closed-lent ∵ nothing ! $ nothing ! $
-          owned ! Q.the-row (Is Q.the-row) (LL.makes Q.the-type Q′.the-plain 𝓤 H A) sealing _ g-sealing $ fjoin ! $
-          owned ! S.the-row (Is S.the-row) (LL.makes S.the-type S′.the-plain 𝓤 H A) state _ g-state $ fjoin ! $
-          move ! (1 ∷ 0 ∷ []) $ join ! $ nothing ! $ move ! (1 ∷ 0 ∷ []) $ done !
+      owned ! Q.the-row (Is Q.the-row) (LL.makes Q.the-type Q′.the-plain 𝓤 H A) sealing _ g-sealing $ fjoin ! $
+      owned ! S.the-row (Is S.the-row) (LL.makes S.the-type S′.the-plain 𝓤 H A) state _ g-state $ fjoin ! $
+      move ! (1 ∷ 0 ∷ []) $ join ! $ nothing ! $ move ! (1 ∷ 0 ∷ []) $ done !
 
   abbrev pub closed-said : Val → Unit {0} → Type 0
   closed-said u x = Value.IsValue Z.the-type Z′.the-laws (closedAs state sealing) u
@@ -271,14 +296,13 @@ module _ {M : Type 1} (𝓤 : URA M) (H : Heap 𝓤) (A : Atoms 𝓤) (W : Given
   closed-gives u =
       qed W (raw (ClosedCall 𝓤 H A mem run .post to-closed u) ∷ []) ∵ updating ! $
       use1 W (later (some (λ (r : Stepped). ((‵ ftrue) ⊛ ‵ (Z.the-row .own r (u ∷ []))) ⊛ raw
-          (ensured 𝓤 H A closed.ended (closed.clauses 𝓤 H A mem run) tt args-closed tt r)))) (id⊢ 𝓤 _) $ await ! tt $
-          pick ! (λ r.
+      (ensured 𝓤 H A closed.ended (closed.clauses 𝓤 H A mem run) tt args-closed tt r)))) (id⊢ 𝓤 _) $ await ! tt $
+      pick ! (λ r.
       split ! $ move ! (1 ∷ []) $
-          use1 W (some (λ (zs : (Unit {0} × (Unit {0} × Unit {0}))). ‵ (lasts closed.ended tt args-closed zs) ⊛ raw
-          (fact 𝓤 (r ≡ closedAs state sealing)))) (id⊢ 𝓤 _) $ pick ! (λ zs.
+      use1 W (some (λ (zs : (Unit {0} × (Unit {0} × Unit {0}))). ‵ (lasts closed.ended tt args-closed zs) ⊛ raw
+      (fact 𝓤 (r ≡ closedAs state sealing)))) (id⊢ 𝓤 _) $ pick ! (λ zs.
       split ! $ move ! (1 ∷ []) $ heard ! (r ≡ closedAs state sealing) (λ e. fsplit ! $ drop ! $ fsplit ! $ drop ! $
-          move ! (1 ∷ []) $ split ! $ move ! (1 ∷ []) $
-          peeks ! Z.the-row (Is Z.the-row) (shows 𝓤 H A Z.the-row) r (u ∷ []) (λ is. drop ! $ at-once ! $
-          show ! (closed-after u) (tt) $
-          check ! (Value.is-value Z.the-type Z′.the-laws r (closedAs state sealing) u (e) is) $ keep ! ([]) $ done !))))
-
+      move ! (1 ∷ []) $ split ! $ move ! (1 ∷ []) $
+      peeks ! Z.the-row (Is Z.the-row) (shows 𝓤 H A Z.the-row) r (u ∷ []) (λ is. drop ! $ at-once ! $
+      show ! (closed-after u) (tt) $
+      check ! (Value.is-value Z.the-type Z′.the-laws r (closedAs state sealing) u (e) is) $ keep ! ([]) $ done !))))

@@ -115,8 +115,19 @@ module _ {M : Type 1} (𝓤 : URA M) (H : Heap 𝓤) (A : Atoms 𝓤) (W : Given
   args-link = (record { ptr = (b-versions, o-versions); name = δ-versions; now = versions }, (plan, tt))
 
   abbrev pub to-link : LinkCall 𝓤 H A mem run .Ghost
-  to-link = (((κ-versions, tt), (q-versions, tt), tt, args-link, (sliceVal (b-versions, o-versions) m-versions ∷ [],
-      (Value.mach L.the-type L′.the-laws plan ∷ [], tt))), tt)
+  to-link = (
+    (
+      (κ-versions, tt),
+      (q-versions, tt),
+      tt,
+      args-link,
+      (
+        sliceVal (b-versions, o-versions) m-versions ∷ [],
+        (Value.mach L.the-type L′.the-laws plan ∷ [], tt),
+      ),
+    ),
+    tt,
+  )
 
   abbrev pub link-lent : List (Item 𝓤)
   link-lent = ‵ (flft κ-versions q-versions) ∷ ‵ (holds T.the-row b-versions o-versions m-versions κ-versions
@@ -126,8 +137,8 @@ module _ {M : Type 1} (𝓤 : URA M) (H : Heap 𝓤) (A : Atoms 𝓤) (W : Given
       → ent 𝓤 (⋆ 𝓤 H A link-lent) (LinkCall 𝓤 H A mem run .pre to-link)
   link-goes g-plan =
       qed W link-lent ∵ nothing ! $ move ! (1 ∷ 0 ∷ []) $ join ! $ nothing ! $
-          owned ! L.the-row (Is L.the-row) (LL.makes L.the-type L′.the-plain 𝓤 H A) plan _ g-plan $ fjoin ! $
-          move ! (2 ∷ 0 ∷ []) $ fjoin ! $ move ! (1 ∷ 0 ∷ []) $ join ! $ nothing ! $ move ! (1 ∷ 0 ∷ []) $ done !
+      owned ! L.the-row (Is L.the-row) (LL.makes L.the-type L′.the-plain 𝓤 H A) plan _ g-plan $ fjoin ! $
+      move ! (2 ∷ 0 ∷ []) $ fjoin ! $ move ! (1 ∷ 0 ∷ []) $ join ! $ nothing ! $ move ! (1 ∷ 0 ∷ []) $ done !
 
   abbrev pub link-said : Val → List Version → Type 0
   link-said u x = (u ≡ vunit) × ((x ≡ linkOf versions plan) × (length (x) ≡ length versions))
@@ -140,15 +151,15 @@ module _ {M : Type 1} (𝓤 : URA M) (H : Heap 𝓤) (A : Atoms 𝓤) (W : Given
   link-gives u =
       qed W (raw (LinkCall 𝓤 H A mem run .post to-link u) ∷ []) ∵ updating ! $
       use1 W (later (some (λ (r : Unit {0}). ((‵ (flft κ-versions q-versions) ⊛ ‵ ftrue) ⊛ ‵ (Nothing .own r
-          (u ∷ []))) ⊛ raw (ensured 𝓤 H A link.ended (link.clauses 𝓤 H A mem run) (κ-versions, tt) args-link tt r))))
-          (id⊢ 𝓤 _) $ await ! tt $ pick ! (λ r.
+      (u ∷ []))) ⊛ raw (ensured 𝓤 H A link.ended (link.clauses 𝓤 H A mem run) (κ-versions, tt) args-link tt r))))
+      (id⊢ 𝓤 _) $ await ! tt $ pick ! (λ r.
       split ! $ move ! (1 ∷ []) $
-          use1 W (some (λ (zs : (List Version × (Unit {0} × Unit {0}))). ‵ (lasts link.ended (κ-versions, tt)
-          args-link zs) ⊛ raw (fact 𝓤 (zs .0 ≡ linkOf versions plan)))) (id⊢ 𝓤 _) $ pick ! (λ zs.
+      use1 W (some (λ (zs : (List Version × (Unit {0} × Unit {0}))). ‵ (lasts link.ended (κ-versions, tt)
+      args-link zs) ⊛ raw (fact 𝓤 (zs .0 ≡ linkOf versions plan)))) (id⊢ 𝓤 _) $ pick ! (λ zs.
       split ! $ move ! (1 ∷ []) $ heard ! (zs .0 ≡ linkOf versions plan) (λ e. fsplit ! $ fsplit ! $
-          move ! (1 ∷ []) $ feqL ! (λ n-versions. move ! (1 ∷ []) $ fsplit ! $ drop ! $ move ! (2 ∷ []) $ split ! $
-          move ! (1 ∷ []) $ feqL ! (λ w. split ! $ move ! (1 ∷ []) $ at-once ! $ show ! (link-after u) (zs .0) $
-          check ! ((ap only w, (e, n-versions))) $ keep ! (1 ∷ 3 ∷ []) $ done !)))))
+      move ! (1 ∷ []) $ feqL ! (λ n-versions. move ! (1 ∷ []) $ fsplit ! $ drop ! $ move ! (2 ∷ []) $ split ! $
+      move ! (1 ∷ []) $ feqL ! (λ w. split ! $ move ! (1 ∷ []) $ at-once ! $ show ! (link-after u) (zs .0) $
+      check ! ((ap only w, (e, n-versions))) $ keep ! (1 ∷ 3 ∷ []) $ done !)))))
 
 -- ---- `fill`
 module _ {M : Type 1} (𝓤 : URA M) (H : Heap 𝓤) (A : Atoms 𝓤) (mem : Memory → SProp 𝓤) (run : Routine → Fun 𝓤) where
@@ -162,8 +173,19 @@ module _ {M : Type 1} (𝓤 : URA M) (H : Heap 𝓤) (A : Atoms 𝓤) (W : Given
   args-fill = (record { ptr = (b-versions, o-versions); name = δ-versions; now = versions }, (plan, tt))
 
   abbrev pub to-fill : FillCall 𝓤 H A mem run .Ghost
-  to-fill = (((κ-versions, tt), (q-versions, tt), tt, args-fill, (sliceVal (b-versions, o-versions) m-versions ∷ [],
-      (Value.mach F.the-type F′.the-laws plan ∷ [], tt))), tt)
+  to-fill = (
+    (
+      (κ-versions, tt),
+      (q-versions, tt),
+      tt,
+      args-fill,
+      (
+        sliceVal (b-versions, o-versions) m-versions ∷ [],
+        (Value.mach F.the-type F′.the-laws plan ∷ [], tt),
+      ),
+    ),
+    tt,
+  )
 
   abbrev pub fill-lent : List (Item 𝓤)
   fill-lent = ‵ (flft κ-versions q-versions) ∷ ‵ (holds T.the-row b-versions o-versions m-versions κ-versions
@@ -173,8 +195,8 @@ module _ {M : Type 1} (𝓤 : URA M) (H : Heap 𝓤) (A : Atoms 𝓤) (W : Given
       → ent 𝓤 (⋆ 𝓤 H A fill-lent) (FillCall 𝓤 H A mem run .pre to-fill)
   fill-goes g-plan =
       qed W fill-lent ∵ nothing ! $ move ! (1 ∷ 0 ∷ []) $ join ! $ nothing ! $
-          owned ! F.the-row (Is F.the-row) (LL.makes F.the-type F′.the-plain 𝓤 H A) plan _ g-plan $ fjoin ! $
-          move ! (2 ∷ 0 ∷ []) $ fjoin ! $ move ! (1 ∷ 0 ∷ []) $ join ! $ nothing ! $ move ! (1 ∷ 0 ∷ []) $ done !
+      owned ! F.the-row (Is F.the-row) (LL.makes F.the-type F′.the-plain 𝓤 H A) plan _ g-plan $ fjoin ! $
+      move ! (2 ∷ 0 ∷ []) $ fjoin ! $ move ! (1 ∷ 0 ∷ []) $ join ! $ nothing ! $ move ! (1 ∷ 0 ∷ []) $ done !
 
   abbrev pub fill-said : Val → List Version → Type 0
   fill-said u x = (u ≡ vunit) × ((x ≡ fillOf versions plan) × (length (x) ≡ length versions))
@@ -187,15 +209,15 @@ module _ {M : Type 1} (𝓤 : URA M) (H : Heap 𝓤) (A : Atoms 𝓤) (W : Given
   fill-gives u =
       qed W (raw (FillCall 𝓤 H A mem run .post to-fill u) ∷ []) ∵ updating ! $
       use1 W (later (some (λ (r : Unit {0}). ((‵ (flft κ-versions q-versions) ⊛ ‵ ftrue) ⊛ ‵ (Nothing .own r
-          (u ∷ []))) ⊛ raw (ensured 𝓤 H A fill.ended (fill.clauses 𝓤 H A mem run) (κ-versions, tt) args-fill tt r))))
-          (id⊢ 𝓤 _) $ await ! tt $ pick ! (λ r.
+      (u ∷ []))) ⊛ raw (ensured 𝓤 H A fill.ended (fill.clauses 𝓤 H A mem run) (κ-versions, tt) args-fill tt r))))
+      (id⊢ 𝓤 _) $ await ! tt $ pick ! (λ r.
       split ! $ move ! (1 ∷ []) $
-          use1 W (some (λ (zs : (List Version × (Unit {0} × Unit {0}))). ‵ (lasts fill.ended (κ-versions, tt)
-          args-fill zs) ⊛ raw (fact 𝓤 (zs .0 ≡ fillOf versions plan)))) (id⊢ 𝓤 _) $ pick ! (λ zs.
+      use1 W (some (λ (zs : (List Version × (Unit {0} × Unit {0}))). ‵ (lasts fill.ended (κ-versions, tt)
+      args-fill zs) ⊛ raw (fact 𝓤 (zs .0 ≡ fillOf versions plan)))) (id⊢ 𝓤 _) $ pick ! (λ zs.
       split ! $ move ! (1 ∷ []) $ heard ! (zs .0 ≡ fillOf versions plan) (λ e. fsplit ! $ fsplit ! $
-          move ! (1 ∷ []) $ feqL ! (λ n-versions. move ! (1 ∷ []) $ fsplit ! $ drop ! $ move ! (2 ∷ []) $ split ! $
-          move ! (1 ∷ []) $ feqL ! (λ w. split ! $ move ! (1 ∷ []) $ at-once ! $ show ! (fill-after u) (zs .0) $
-          check ! ((ap only w, (e, n-versions))) $ keep ! (1 ∷ 3 ∷ []) $ done !)))))
+      move ! (1 ∷ []) $ feqL ! (λ n-versions. move ! (1 ∷ []) $ fsplit ! $ drop ! $ move ! (2 ∷ []) $ split ! $
+      move ! (1 ∷ []) $ feqL ! (λ w. split ! $ move ! (1 ∷ []) $ at-once ! $ show ! (fill-after u) (zs .0) $
+      check ! ((ap only w, (e, n-versions))) $ keep ! (1 ∷ 3 ∷ []) $ done !)))))
 
 -- ---- `clear`
 module _ {M : Type 1} (𝓤 : URA M) (H : Heap 𝓤) (A : Atoms 𝓤) (mem : Memory → SProp 𝓤) (run : Routine → Fun 𝓤) where
@@ -209,8 +231,20 @@ module _ {M : Type 1} (𝓤 : URA M) (H : Heap 𝓤) (A : Atoms 𝓤) (W : Given
   args-clear = (record { ptr = (b-versions, o-versions); name = δ-versions; now = versions }, (count, tt))
 
   abbrev pub to-clear : ClearCall 𝓤 H A mem run .Ghost
-  to-clear = (((κ-versions, tt), (q-versions, tt), tt, args-clear, (sliceVal (b-versions, o-versions)
-      m-versions ∷ [], (vint w64 count ∷ [], tt))), tt)
+  to-clear = (
+    (
+      (κ-versions, tt),
+      (q-versions, tt),
+      tt,
+      args-clear,
+      (
+        sliceVal (b-versions, o-versions)
+            m-versions ∷ [],
+        (vint w64 count ∷ [], tt),
+      ),
+    ),
+    tt,
+  )
 
   abbrev pub clear-lent : List (Item 𝓤)
   clear-lent = ‵ (flft κ-versions q-versions) ∷ ‵ (holds T.the-row b-versions o-versions m-versions κ-versions
@@ -219,8 +253,8 @@ module _ {M : Type 1} (𝓤 : URA M) (H : Heap 𝓤) (A : Atoms 𝓤) (W : Given
   pub clear-goes : count < 2 ^ 64 → ent 𝓤 (⋆ 𝓤 H A clear-lent) (ClearCall 𝓤 H A mem run .pre to-clear)
   clear-goes g-count =
       qed W clear-lent ∵ nothing ! $ move ! (1 ∷ 0 ∷ []) $ join ! $ nothing ! $
-          owned ! usize (Is usize) (uint-makes 𝓤 H A W w64) count _ (refl, g-count) $ fjoin ! $ move ! (2 ∷ 0 ∷ []) $
-          fjoin ! $ move ! (1 ∷ 0 ∷ []) $ join ! $ nothing ! $ move ! (1 ∷ 0 ∷ []) $ done !
+      owned ! usize (Is usize) (uint-makes 𝓤 H A W w64) count _ (refl, g-count) $ fjoin ! $ move ! (2 ∷ 0 ∷ []) $
+      fjoin ! $ move ! (1 ∷ 0 ∷ []) $ join ! $ nothing ! $ move ! (1 ∷ 0 ∷ []) $ done !
 
   abbrev pub clear-said : Val → List Version → Type 0
   clear-said u x = (u ≡ vunit) × ((x ≡ clearOf versions count) × (length (x) ≡ length versions))
@@ -233,15 +267,15 @@ module _ {M : Type 1} (𝓤 : URA M) (H : Heap 𝓤) (A : Atoms 𝓤) (W : Given
   clear-gives u =
       qed W (raw (ClearCall 𝓤 H A mem run .post to-clear u) ∷ []) ∵ updating ! $
       use1 W (later (some (λ (r : Unit {0}). ((‵ (flft κ-versions q-versions) ⊛ ‵ ftrue) ⊛ ‵ (Nothing .own r
-          (u ∷ []))) ⊛ raw (ensured 𝓤 H A clear.ended (clear.clauses 𝓤 H A mem run) (κ-versions, tt)
-          args-clear tt r)))) (id⊢ 𝓤 _) $ await ! tt $ pick ! (λ r.
+      (u ∷ []))) ⊛ raw (ensured 𝓤 H A clear.ended (clear.clauses 𝓤 H A mem run) (κ-versions, tt)
+      args-clear tt r)))) (id⊢ 𝓤 _) $ await ! tt $ pick ! (λ r.
       split ! $ move ! (1 ∷ []) $
-          use1 W (some (λ (zs : (List Version × (Unit {0} × Unit {0}))). ‵ (lasts clear.ended (κ-versions, tt)
-          args-clear zs) ⊛ raw (fact 𝓤 (zs .0 ≡ clearOf versions count)))) (id⊢ 𝓤 _) $ pick ! (λ zs.
+      use1 W (some (λ (zs : (List Version × (Unit {0} × Unit {0}))). ‵ (lasts clear.ended (κ-versions, tt)
+      args-clear zs) ⊛ raw (fact 𝓤 (zs .0 ≡ clearOf versions count)))) (id⊢ 𝓤 _) $ pick ! (λ zs.
       split ! $ move ! (1 ∷ []) $ heard ! (zs .0 ≡ clearOf versions count) (λ e. fsplit ! $ fsplit ! $
-          move ! (1 ∷ []) $ feqL ! (λ n-versions. move ! (1 ∷ []) $ fsplit ! $ drop ! $ move ! (2 ∷ []) $ split ! $
-          move ! (1 ∷ []) $ feqL ! (λ w. split ! $ move ! (1 ∷ []) $ at-once ! $ show ! (clear-after u) (zs .0) $
-          check ! ((ap only w, (e, n-versions))) $ keep ! (1 ∷ 3 ∷ []) $ done !)))))
+      move ! (1 ∷ []) $ feqL ! (λ n-versions. move ! (1 ∷ []) $ fsplit ! $ drop ! $ move ! (2 ∷ []) $ split ! $
+      move ! (1 ∷ []) $ feqL ! (λ w. split ! $ move ! (1 ∷ []) $ at-once ! $ show ! (clear-after u) (zs .0) $
+      check ! ((ap only w, (e, n-versions))) $ keep ! (1 ∷ 3 ∷ []) $ done !)))))
 
 -- ---- `walk`
 module _ {M : Type 1} (𝓤 : URA M) (H : Heap 𝓤) (A : Atoms 𝓤) (mem : Memory → SProp 𝓤) (run : Routine → Fun 𝓤) where
@@ -252,12 +286,31 @@ module _ {M : Type 1} (𝓤 : URA M) (H : Heap 𝓤) (A : Atoms 𝓤) (W : Given
     → SProp 𝓤) (run : Routine → Fun 𝓤) (versions : List Version) (newest : ℕ) (bound : ℕ) (position : ℕ)
     (b-versions o-versions m-versions : ℕ) (κ-versions : Lft) (q-versions : Share) (δ-versions : GName) where
   abbrev args-walk : (RefT (List Version) × (ℕ × (ℕ × (ℕ × Unit {0}))))
-  args-walk = (record { ptr = (b-versions, o-versions); name = δ-versions; now = versions }, (newest, (bound,
-      (position, tt))))
+  args-walk = (
+    record { ptr = (b-versions, o-versions); name = δ-versions; now = versions },
+    (
+      newest,
+      (
+        bound,
+        (position, tt),
+      ),
+    ),
+  )
 
   abbrev pub to-walk : WalkCall 𝓤 H A mem run .Ghost
-  to-walk = (((κ-versions, tt), (q-versions, tt), tt, args-walk, (sliceVal (b-versions, o-versions) m-versions ∷ [],
-      (vint w16 newest ∷ [], (vint w64 bound ∷ [], (vint w64 position ∷ [], tt))))), tt)
+  to-walk = (
+    (
+      (κ-versions, tt),
+      (q-versions, tt),
+      tt,
+      args-walk,
+      (
+        sliceVal (b-versions, o-versions) m-versions ∷ [],
+        (vint w16 newest ∷ [], (vint w64 bound ∷ [], (vint w64 position ∷ [], tt))),
+      ),
+    ),
+    tt,
+  )
 
   abbrev pub walk-lent : List (Item 𝓤)
   walk-lent = ‵ (flft κ-versions q-versions) ∷ ‵ (sees T.the-row b-versions o-versions m-versions κ-versions
@@ -267,10 +320,10 @@ module _ {M : Type 1} (𝓤 : URA M) (H : Heap 𝓤) (A : Atoms 𝓤) (W : Given
       → ent 𝓤 (⋆ 𝓤 H A walk-lent) (WalkCall 𝓤 H A mem run .pre to-walk)
   walk-goes g-newest g-bound g-position =
       qed W walk-lent ∵ nothing ! $ move ! (1 ∷ 0 ∷ []) $ join ! $ nothing ! $
-          owned ! u64 (Is u64) (uint-makes 𝓤 H A W w64) position _ (refl, g-position) $ fjoin ! $
-          owned ! usize (Is usize) (uint-makes 𝓤 H A W w64) bound _ (refl, g-bound) $ fjoin ! $
-          owned ! u16 (Is u16) (uint-makes 𝓤 H A W w16) newest _ (refl, g-newest) $ fjoin ! $ move ! (2 ∷ 0 ∷ []) $
-          fjoin ! $ move ! (1 ∷ 0 ∷ []) $ join ! $ nothing ! $ move ! (1 ∷ 0 ∷ []) $ done !
+      owned ! u64 (Is u64) (uint-makes 𝓤 H A W w64) position _ (refl, g-position) $ fjoin ! $
+      owned ! usize (Is usize) (uint-makes 𝓤 H A W w64) bound _ (refl, g-bound) $ fjoin ! $
+      owned ! u16 (Is u16) (uint-makes 𝓤 H A W w16) newest _ (refl, g-newest) $ fjoin ! $ move ! (2 ∷ 0 ∷ []) $
+      fjoin ! $ move ! (1 ∷ 0 ∷ []) $ join ! $ nothing ! $ move ! (1 ∷ 0 ∷ []) $ done !
 
   abbrev pub walk-said : Val → Unit {0} → Type 0
   walk-said u x = Choice.IsValue E.the-type E′.the-laws (walkedOf versions newest bound position) u
@@ -282,18 +335,18 @@ module _ {M : Type 1} (𝓤 : URA M) (H : Heap 𝓤) (A : Atoms 𝓤) (W : Given
   walk-gives u =
       qed W (raw (WalkCall 𝓤 H A mem run .post to-walk u) ∷ []) ∵ updating ! $
       use1 W (later (some (λ (r : Walked). ((‵ (flft κ-versions q-versions) ⊛ ‵ ftrue) ⊛ ‵ (E.the-row .own r
-          (u ∷ []))) ⊛ raw (ensured 𝓤 H A walk.ended (walk.clauses 𝓤 H A mem run) (κ-versions, tt) args-walk tt r))))
-          (id⊢ 𝓤 _) $ await ! tt $ pick ! (λ r.
+      (u ∷ []))) ⊛ raw (ensured 𝓤 H A walk.ended (walk.clauses 𝓤 H A mem run) (κ-versions, tt) args-walk tt r))))
+      (id⊢ 𝓤 _) $ await ! tt $ pick ! (λ r.
       split ! $ move ! (1 ∷ []) $
-          use1 W (some (λ (zs : (Unit {0} × (Unit {0} × (Unit {0} × (Unit {0} × Unit {0}))))). ‵ (lasts walk.ended
-          (κ-versions, tt) args-walk zs) ⊛ raw (fact 𝓤 (r ≡ walkedOf versions newest bound position)))) (id⊢ 𝓤 _) $
-          pick ! (λ zs.
+      use1 W (some (λ (zs : (Unit {0} × (Unit {0} × (Unit {0} × (Unit {0} × Unit {0}))))). ‵ (lasts walk.ended
+      (κ-versions, tt) args-walk zs) ⊛ raw (fact 𝓤 (r ≡ walkedOf versions newest bound position)))) (id⊢ 𝓤 _) $
+      pick ! (λ zs.
       split ! $ move ! (1 ∷ []) $ heard ! (r ≡ walkedOf versions newest bound position) (λ e. fsplit ! $ drop ! $
-          fsplit ! $ drop ! $ fsplit ! $ drop ! $ fsplit ! $ drop ! $ move ! (1 ∷ []) $ split ! $ move ! (1 ∷ []) $
-          peeks ! E.the-row (Is E.the-row) (shows 𝓤 H A E.the-row) r (u ∷ []) (λ is. drop ! $ split ! $
-          move ! (1 ∷ []) $ at-once ! $ show ! (walk-after u) (tt) $
-          check ! (Choice.is-value E.the-type E′.the-laws r (walkedOf versions newest bound position) u (e) is) $
-          keep ! (1 ∷ []) $ done !))))
+      fsplit ! $ drop ! $ fsplit ! $ drop ! $ fsplit ! $ drop ! $ move ! (1 ∷ []) $ split ! $ move ! (1 ∷ []) $
+      peeks ! E.the-row (Is E.the-row) (shows 𝓤 H A E.the-row) r (u ∷ []) (λ is. drop ! $ split ! $
+      move ! (1 ∷ []) $ at-once ! $ show ! (walk-after u) (tt) $
+      check ! (Choice.is-value E.the-type E′.the-laws r (walkedOf versions newest bound position) u (e) is) $
+      keep ! (1 ∷ []) $ done !))))
 
 -- ---- `newest-sound`
 module _ {M : Type 1} (𝓤 : URA M) (H : Heap 𝓤) (A : Atoms 𝓤) (mem : Memory → SProp 𝓤) (run : Routine → Fun 𝓤) where
@@ -305,13 +358,37 @@ module _ {M : Type 1} (𝓤 : URA M) (H : Heap 𝓤) (A : Atoms 𝓤) (W : Given
     (b-versions o-versions m-versions : ℕ) (b-newest o-newest m-newest : ℕ) (κ-versions : Lft) (q-versions : Share)
     (δ-versions : GName) (κ-newest : Lft) (q-newest : Share) (δ-newest : GName) where
   abbrev args-newest-sound : (RefT (List Version) × (RefT (List ℕ) × (ℕ × Unit {0})))
-  args-newest-sound = (record { ptr = (b-versions, o-versions); name = δ-versions; now = versions }, (record { ptr =
-      (b-newest, o-newest); name = δ-newest; now = newest }, (bound, tt)))
+  args-newest-sound = (
+    record { ptr = (b-versions, o-versions); name = δ-versions; now = versions },
+    (
+      record {
+        ptr =
+            (b-newest, o-newest);
+        name = δ-newest;
+        now = newest;
+      },
+      (bound, tt),
+    ),
+  )
 
   abbrev pub to-newest-sound : NewestSoundCall 𝓤 H A mem run .Ghost
-  to-newest-sound = (((κ-versions, (κ-newest, tt)), (q-versions, (q-newest, tt)), tt, args-newest-sound, (sliceVal
-      (b-versions, o-versions) m-versions ∷ [], (sliceVal (b-newest, o-newest) m-newest ∷ [],
-      (vint w64 bound ∷ [], tt)))), tt)
+  to-newest-sound = (
+    (
+      (κ-versions, (κ-newest, tt)),
+      (q-versions, (q-newest, tt)),
+      tt,
+      args-newest-sound,
+      (
+        sliceVal
+            (b-versions, o-versions) m-versions ∷ [],
+        (
+          sliceVal (b-newest, o-newest) m-newest ∷ [],
+          (vint w64 bound ∷ [], tt),
+        ),
+      ),
+    ),
+    tt,
+  )
 
   abbrev pub newest-sound-lent : List (Item 𝓤)
   newest-sound-lent = ‵ (flft κ-versions q-versions) ∷ ‵ (sees T.the-row b-versions o-versions m-versions κ-versions
@@ -322,9 +399,9 @@ module _ {M : Type 1} (𝓤 : URA M) (H : Heap 𝓤) (A : Atoms 𝓤) (W : Given
       → ent 𝓤 (⋆ 𝓤 H A newest-sound-lent) (NewestSoundCall 𝓤 H A mem run .pre to-newest-sound)
   newest-sound-goes g-bound =
       qed W newest-sound-lent ∵ nothing ! $ move ! (3 ∷ 0 ∷ []) $ join ! $ move ! (1 ∷ 0 ∷ []) $ join ! $ nothing ! $
-          owned ! usize (Is usize) (uint-makes 𝓤 H A W w64) bound _ (refl, g-bound) $ fjoin ! $ move ! (3 ∷ 0 ∷ []) $
-          fjoin ! $ move ! (2 ∷ 0 ∷ []) $ fjoin ! $ move ! (1 ∷ 0 ∷ []) $ join ! $ nothing ! $ move ! (1 ∷ 0 ∷ []) $
-          done !
+      owned ! usize (Is usize) (uint-makes 𝓤 H A W w64) bound _ (refl, g-bound) $ fjoin ! $ move ! (3 ∷ 0 ∷ []) $
+      fjoin ! $ move ! (2 ∷ 0 ∷ []) $ fjoin ! $ move ! (1 ∷ 0 ∷ []) $ join ! $ nothing ! $ move ! (1 ∷ 0 ∷ []) $
+      done !
 
   abbrev pub newest-sound-said : Val → Unit {0} → Type 0
   newest-sound-said u x = u ≡ vbool (newestSoundOf versions newest bound)
@@ -338,17 +415,17 @@ module _ {M : Type 1} (𝓤 : URA M) (H : Heap 𝓤) (A : Atoms 𝓤) (W : Given
   newest-sound-gives u =
       qed W (raw (NewestSoundCall 𝓤 H A mem run .post to-newest-sound u) ∷ []) ∵ updating ! $
       use1 W (later (some (λ (r : Bool). ((‵ (flft κ-versions q-versions) ⊛ ‵ (flft κ-newest q-newest) ⊛ ‵ ftrue) ⊛ ‵
-          (bool .own r (u ∷ []))) ⊛ raw (ensured 𝓤 H A newest-sound.ended (newest-sound.clauses 𝓤 H A mem run)
-          (κ-versions, (κ-newest, tt)) args-newest-sound tt r)))) (id⊢ 𝓤 _) $ await ! tt $ pick ! (λ r.
+      (bool .own r (u ∷ []))) ⊛ raw (ensured 𝓤 H A newest-sound.ended (newest-sound.clauses 𝓤 H A mem run)
+      (κ-versions, (κ-newest, tt)) args-newest-sound tt r)))) (id⊢ 𝓤 _) $ await ! tt $ pick ! (λ r.
       split ! $ move ! (1 ∷ []) $
-          use1 W (some (λ (zs : (Unit {0} × (Unit {0} × (Unit {0} × Unit {0})))). ‵ (lasts newest-sound.ended
-          (κ-versions, (κ-newest, tt)) args-newest-sound zs) ⊛ raw (fact 𝓤
-          (r ≡ newestSoundOf versions newest bound)))) (id⊢ 𝓤 _) $ pick ! (λ zs.
+      use1 W (some (λ (zs : (Unit {0} × (Unit {0} × (Unit {0} × Unit {0})))). ‵ (lasts newest-sound.ended
+      (κ-versions, (κ-newest, tt)) args-newest-sound zs) ⊛ raw (fact 𝓤
+      (r ≡ newestSoundOf versions newest bound)))) (id⊢ 𝓤 _) $ pick ! (λ zs.
       split ! $ move ! (1 ∷ []) $ heard ! (r ≡ newestSoundOf versions newest bound) (λ e. fsplit ! $ drop ! $
-          fsplit ! $ drop ! $ fsplit ! $ drop ! $ move ! (1 ∷ []) $ split ! $ move ! (1 ∷ []) $
-          peeks ! bool (Is bool) (shows 𝓤 H A bool) r (u ∷ []) (λ is. drop ! $ split ! $ move ! (1 ∷ []) $ split ! $
-          move ! (1 ∷ []) $ at-once ! $ show ! (newest-sound-after u) (tt) $ check ! (ap only is ∙ ap vbool (e)) $
-          keep ! (2 ∷ 1 ∷ []) $ done !))))
+      fsplit ! $ drop ! $ fsplit ! $ drop ! $ move ! (1 ∷ []) $ split ! $ move ! (1 ∷ []) $
+      peeks ! bool (Is bool) (shows 𝓤 H A bool) r (u ∷ []) (λ is. drop ! $ split ! $ move ! (1 ∷ []) $ split ! $
+      move ! (1 ∷ []) $ at-once ! $ show ! (newest-sound-after u) (tt) $ check ! (ap only is ∙ ap vbool (e)) $
+      keep ! (2 ∷ 1 ∷ []) $ done !))))
 
 -- ---- `collect`
 module _ {M : Type 1} (𝓤 : URA M) (H : Heap 𝓤) (A : Atoms 𝓤) (mem : Memory → SProp 𝓤) (run : Routine → Fun 𝓤) where
@@ -361,14 +438,51 @@ module _ {M : Type 1} (𝓤 : URA M) (H : Heap 𝓤) (A : Atoms 𝓤) (W : Given
     (κ-versions : Lft) (q-versions : Share) (δ-versions : GName) (κ-newest : Lft) (q-newest : Share)
     (δ-newest : GName) (κ-records : Lft) (q-records : Share) (δ-records : GName) where
   abbrev args-collect : (RefT (List Version) × (RefT (List ℕ) × (RefT (List ℕ) × (Bool × Unit {0}))))
-  args-collect = (record { ptr = (b-versions, o-versions); name = δ-versions; now = versions }, (record { ptr =
-      (b-newest, o-newest); name = δ-newest; now = newest }, (record { ptr =
-      (b-records, o-records); name = δ-records; now = records }, (on, tt))))
+  args-collect = (
+    record { ptr = (b-versions, o-versions); name = δ-versions; now = versions },
+    (
+      record {
+        ptr =
+            (b-newest, o-newest);
+        name = δ-newest;
+        now = newest;
+      },
+      (
+        record {
+          ptr =
+              (b-records, o-records);
+          name = δ-records;
+          now = records;
+        },
+        (on, tt),
+      ),
+    ),
+  )
 
   abbrev pub to-collect : CollectCall 𝓤 H A mem run .Ghost
-  to-collect = (((κ-versions, (κ-newest, (κ-records, tt))), (q-versions, (q-newest,
-      (q-records, tt))), tt, args-collect, (sliceVal (b-versions, o-versions) m-versions ∷ [], (sliceVal
-      (b-newest, o-newest) m-newest ∷ [], (sliceVal (b-records, o-records) m-records ∷ [], (vbool on ∷ [], tt))))), tt)
+  to-collect = (
+    (
+      (κ-versions, (κ-newest, (κ-records, tt))),
+      (
+        q-versions,
+        (
+          q-newest,
+          (q-records, tt),
+        ),
+      ),
+      tt,
+      args-collect,
+      (
+        sliceVal (b-versions, o-versions) m-versions ∷ [],
+        (
+          sliceVal
+              (b-newest, o-newest) m-newest ∷ [],
+          (sliceVal (b-records, o-records) m-records ∷ [], (vbool on ∷ [], tt)),
+        ),
+      ),
+    ),
+    tt,
+  )
 
   abbrev pub collect-lent : List (Item 𝓤)
   collect-lent = ‵ (flft κ-versions q-versions) ∷ ‵ (sees T.the-row b-versions o-versions m-versions κ-versions
@@ -379,9 +493,9 @@ module _ {M : Type 1} (𝓤 : URA M) (H : Heap 𝓤) (A : Atoms 𝓤) (W : Given
   pub collect-goes : ent 𝓤 (⋆ 𝓤 H A collect-lent) (CollectCall 𝓤 H A mem run .pre to-collect)
   collect-goes =
       qed W collect-lent ∵ nothing ! $ move ! (5 ∷ 0 ∷ []) $ join ! $ move ! (3 ∷ 0 ∷ []) $ join ! $
-          move ! (1 ∷ 0 ∷ []) $ join ! $ nothing ! $ owned ! bool (Is bool) (bool-makes 𝓤 H A W) on _ refl $
-          fjoin ! $ move ! (4 ∷ 0 ∷ []) $ fjoin ! $ move ! (3 ∷ 0 ∷ []) $ fjoin ! $ move ! (2 ∷ 0 ∷ []) $ fjoin ! $
-          move ! (1 ∷ 0 ∷ []) $ join ! $ nothing ! $ move ! (1 ∷ 0 ∷ []) $ done !
+      move ! (1 ∷ 0 ∷ []) $ join ! $ nothing ! $ owned ! bool (Is bool) (bool-makes 𝓤 H A W) on _ refl $
+      fjoin ! $ move ! (4 ∷ 0 ∷ []) $ fjoin ! $ move ! (3 ∷ 0 ∷ []) $ fjoin ! $ move ! (2 ∷ 0 ∷ []) $ fjoin ! $
+      move ! (1 ∷ 0 ∷ []) $ join ! $ nothing ! $ move ! (1 ∷ 0 ∷ []) $ done !
 
   abbrev pub collect-said : Val → List ℕ → Type 0
   collect-said u x = (u ≡ vunit) × ((x ≡ collectOf versions newest records on) × (length (x) ≡ length records))
@@ -394,17 +508,16 @@ module _ {M : Type 1} (𝓤 : URA M) (H : Heap 𝓤) (A : Atoms 𝓤) (W : Given
   collect-gives u =
       qed W (raw (CollectCall 𝓤 H A mem run .post to-collect u) ∷ []) ∵ updating ! $
       use1 W (later (some (λ (r : Unit {0}). ((‵ (flft κ-versions q-versions) ⊛ ‵ (flft κ-newest q-newest) ⊛ ‵
-          (flft κ-records q-records) ⊛ ‵ ftrue) ⊛ ‵ (Nothing .own r (u ∷ []))) ⊛ raw (ensured 𝓤 H A collect.ended
-          (collect.clauses 𝓤 H A mem run) (κ-versions, (κ-newest, (κ-records, tt))) args-collect tt r)))) (id⊢ 𝓤 _) $
-          await ! tt $ pick ! (λ r.
+      (flft κ-records q-records) ⊛ ‵ ftrue) ⊛ ‵ (Nothing .own r (u ∷ []))) ⊛ raw (ensured 𝓤 H A collect.ended
+      (collect.clauses 𝓤 H A mem run) (κ-versions, (κ-newest, (κ-records, tt))) args-collect tt r)))) (id⊢ 𝓤 _) $
+      await ! tt $ pick ! (λ r.
       split ! $ move ! (1 ∷ []) $
-          use1 W (some (λ (zs : (Unit {0} × (Unit {0} × (List ℕ × (Unit {0} × Unit {0}))))). ‵ (lasts collect.ended
-          (κ-versions, (κ-newest, (κ-records, tt))) args-collect zs) ⊛ raw (fact 𝓤
-          (zs .1 .1 .0 ≡ collectOf versions newest records on)))) (id⊢ 𝓤 _) $ pick ! (λ zs.
+      use1 W (some (λ (zs : (Unit {0} × (Unit {0} × (List ℕ × (Unit {0} × Unit {0}))))). ‵ (lasts collect.ended
+      (κ-versions, (κ-newest, (κ-records, tt))) args-collect zs) ⊛ raw (fact 𝓤
+      (zs .1 .1 .0 ≡ collectOf versions newest records on)))) (id⊢ 𝓤 _) $ pick ! (λ zs.
       split ! $ move ! (1 ∷ []) $ heard ! (zs .1 .1 .0 ≡ collectOf versions newest records on) (λ e. fsplit ! $
-          drop ! $ fsplit ! $ drop ! $ fsplit ! $ fsplit ! $ move ! (1 ∷ []) $ feqL ! (λ n-records. move ! (1 ∷ []) $
-          fsplit ! $ drop ! $ move ! (2 ∷ []) $ split ! $ move ! (1 ∷ []) $ feqL ! (λ w. split ! $ move ! (1 ∷ []) $
-          split ! $ move ! (1 ∷ []) $ split ! $ move ! (1 ∷ []) $ at-once ! $
-          show ! (collect-after u) (zs .1 .1 .0) $ check ! ((ap only w, (e, n-records))) $
-          keep ! (3 ∷ 2 ∷ 1 ∷ 5 ∷ []) $ done !)))))
-
+      drop ! $ fsplit ! $ drop ! $ fsplit ! $ fsplit ! $ move ! (1 ∷ []) $ feqL ! (λ n-records. move ! (1 ∷ []) $
+      fsplit ! $ drop ! $ move ! (2 ∷ []) $ split ! $ move ! (1 ∷ []) $ feqL ! (λ w. split ! $ move ! (1 ∷ []) $
+      split ! $ move ! (1 ∷ []) $ split ! $ move ! (1 ∷ []) $ at-once ! $
+      show ! (collect-after u) (zs .1 .1 .0) $ check ! ((ap only w, (e, n-records))) $
+      keep ! (3 ∷ 2 ∷ 1 ∷ 5 ∷ []) $ done !)))))

@@ -142,9 +142,24 @@ use Rattle.engine.proofs.State.advance.Code as code
 use Rattle.engine.proofs.State.advance.Code.Mir as mir′
 
 abbrev stayed : Stays (own.ended .signature .params) (own.ended .kept)
-stayed = (stay-none (λ _. S.the-row) yes, (stay-none (λ _. usize) yes, (stay-none-slice (0 ∷ []) tt (plain (λ _.
-    u8)) yes, (stay-none-slice (1 ∷ []) tt (plain (λ _. u64)) yes, (stay-none-slice (2 ∷ []) tt (plain (λ _.
-    u16)) yes, (stay-slice (3 ∷ []) tt (plain (λ _. T.the-row)), (stay-slice (4 ∷ []) tt (plain (λ _. u64)), tt)))))))
+stayed = (
+  stay-none (λ _. S.the-row) yes,
+  (
+    stay-none (λ _. usize) yes,
+    (
+      stay-none-slice (0 ∷ []) tt (plain (λ _.
+          u8)) yes,
+      (
+        stay-none-slice (1 ∷ []) tt (plain (λ _. u64)) yes,
+        (
+          stay-none-slice (2 ∷ []) tt (plain (λ _.
+              u16)) yes,
+          (stay-slice (3 ∷ []) tt (plain (λ _. T.the-row)), (stay-slice (4 ∷ []) tt (plain (λ _. u64)), tt)),
+        ),
+      ),
+    ),
+  ),
+)
 
 abbrev τ : ℕ → Ty
 τ = tyAt mir′.locals
@@ -176,21 +191,91 @@ module _ {M : Type 1} (𝓤 : URA M) (H : Heap 𝓤) (A : Atoms 𝓤) (W : Given
 
   abbrev a : (State × (ℕ × (RefT (List ℕ) × (RefT (List ℕ) × (RefT (List ℕ) × (RefT (List Version) × (RefT (List ℕ)
       × Unit {0})))))))
-  a = (state, (party, (record { ptr = (b-log, o-log); name = δ-log; now = log }, (record { ptr =
-      (b-records, o-records); name = δ-records; now = records }, (record { ptr =
-      (b-newest, o-newest); name = δ-newest; now = newest }, (record { ptr =
-      (b-versions, o-versions); name = δ-versions; now = versions }, (record { ptr =
-      (b-results, o-results); name = δ-results; now = results }, tt)))))))
+  a = (
+    state,
+    (
+      party,
+      (
+        record { ptr = (b-log, o-log); name = δ-log; now = log },
+        (
+          record {
+            ptr =
+                (b-records, o-records);
+            name = δ-records;
+            now = records;
+          },
+          (
+            record {
+              ptr =
+                  (b-newest, o-newest);
+              name = δ-newest;
+              now = newest;
+            },
+            (
+              record {
+                ptr =
+                    (b-versions, o-versions);
+                name = δ-versions;
+                now = versions;
+              },
+              (
+                record {
+                  ptr =
+                      (b-results, o-results);
+                  name = δ-results;
+                  now = results;
+                },
+                tt,
+              ),
+            ),
+          ),
+        ),
+      ),
+    ),
+  )
 
   abbrev at : Vals own.signature (κ-log, (κ-records, (κ-newest, (κ-versions, (κ-results, tt)))))
-  at = (Value.mach S.the-type S′.the-laws state ∷ [], (vint w64 party ∷ [], (sliceVal (b-log, o-log) m-log ∷ [],
-      (sliceVal (b-records, o-records) m-records ∷ [], (sliceVal (b-newest, o-newest) m-newest ∷ [], (sliceVal
-      (b-versions, o-versions) m-versions ∷ [], (sliceVal (b-results, o-results) m-results ∷ [], tt)))))))
+  at = (
+    Value.mach S.the-type S′.the-laws state ∷ [],
+    (
+      vint w64 party ∷ [],
+      (
+        sliceVal (b-log, o-log) m-log ∷ [],
+        (
+          sliceVal (b-records, o-records) m-records ∷ [],
+          (
+            sliceVal (b-newest, o-newest) m-newest ∷ [],
+            (
+              sliceVal
+                  (b-versions, o-versions) m-versions ∷ [],
+              (sliceVal (b-results, o-results) m-results ∷ [], tt),
+            ),
+          ),
+        ),
+      ),
+    ),
+  )
 
   abbrev Post : Val → SProp 𝓤
-  Post = walkOf 𝓤 H A own.ended stayed (own.clauses 𝓤 H A mem run) .post (((κ-log, (κ-records, (κ-newest,
-      (κ-versions, (κ-results, tt))))), (q-log, (q-records, (q-newest, (q-versions, (q-results, tt))))), bounds, a,
-      at), tt)
+  Post = walkOf 𝓤 H A own.ended stayed (own.clauses 𝓤 H A mem run) .post (
+    (
+      (
+        κ-log,
+        (
+          κ-records,
+          (
+            κ-newest,
+            (κ-versions, (κ-results, tt)),
+          ),
+        ),
+      ),
+      (q-log, (q-records, (q-newest, (q-versions, (q-results, tt))))),
+      bounds,
+      a,
+      at,
+    ),
+    tt,
+  )
 
   exits : (h : Stepped) (z-versions : List Version) (z-results : List ℕ)
       → h ≡ advanceOf state party log records newest versions results .stepped
@@ -205,22 +290,55 @@ module _ {M : Type 1} (𝓤 : URA M) (H : Heap 𝓤) (A : Atoms 𝓤) (W : Given
       (flft κ-results q-results) ∷ [])) (Post (Value.mach Z.the-type Z′.the-laws h))
   exits h z-versions z-results e-0 e-1 e-2 n-versions n-results g-h =
       qed W (‵ (sees u8 b-log o-log m-log κ-log δ-log log) ∷ ‵ (flft κ-log q-log) ∷ ‵
-          (sees u64 b-records o-records m-records κ-records δ-records records) ∷ ‵ (flft κ-records q-records) ∷ ‵
-          (sees u16 b-newest o-newest m-newest κ-newest δ-newest newest) ∷ ‵ (flft κ-newest q-newest) ∷ ‵
-          (holds T.the-row b-versions o-versions m-versions κ-versions δ-versions z-versions) ∷ ‵
-          (flft κ-versions q-versions) ∷ ‵ (holds u64 b-results o-results m-results κ-results δ-results z-results)
-          ∷ ‵ (flft κ-results q-results) ∷ []) ∵
-          suffices ! _ (ends-at 𝓤 H A own.ended stayed (own.clauses 𝓤 H A mem run) W (((κ-log, (κ-records, (κ-newest,
-          (κ-versions, (κ-results, tt))))), (q-log, (q-records, (q-newest, (q-versions, (q-results, tt))))), bounds,
-          a, at), tt) (Value.mach Z.the-type Z′.the-laws h) h (tt, (tt, (tt, (tt, (tt, (z-versions,
-          (z-results, tt))))))) (tt, (tt, (tt, (tt, (tt, (n-versions, (n-results, tt)))))))) $
-          says ! (e-0, (e-1, e-2)) $ nothing ! $ move ! (10 ∷ 0 ∷ []) $ join ! $ move ! (8 ∷ 0 ∷ []) $ join ! $
-          move ! (6 ∷ 0 ∷ []) $ join ! $ move ! (4 ∷ 0 ∷ []) $ join ! $ move ! (2 ∷ 0 ∷ []) $ join ! $ frame ! $
-          nothing ! $ move ! (5 ∷ 0 ∷ []) $ fjoin ! $ move ! (4 ∷ 0 ∷ []) $ fjoin ! $ move ! (3 ∷ 0 ∷ []) $ fjoin ! $
-          move ! (2 ∷ 0 ∷ []) $ fjoin ! $ move ! (1 ∷ 0 ∷ []) $ fjoin ! $
-          owned ! usize (Is usize) (uint-makes 𝓤 H A W w64) party _ (refl, g-party) $ fjoin ! $
-          owned ! S.the-row (Is S.the-row) (LL.makes S.the-type S′.the-plain 𝓤 H A) state _ g-state $ fjoin ! $
-          frame ! $ owned ! Z.the-row (Is Z.the-row) (LL.makes Z.the-type Z′.the-plain 𝓤 H A) h _ g-h $ done !
+      (sees u64 b-records o-records m-records κ-records δ-records records) ∷ ‵ (flft κ-records q-records) ∷ ‵
+      (sees u16 b-newest o-newest m-newest κ-newest δ-newest newest) ∷ ‵ (flft κ-newest q-newest) ∷ ‵
+      (holds T.the-row b-versions o-versions m-versions κ-versions δ-versions z-versions) ∷ ‵
+      (flft κ-versions q-versions) ∷ ‵ (holds u64 b-results o-results m-results κ-results δ-results z-results)
+      ∷ ‵ (flft κ-results q-results) ∷ []) ∵
+      suffices ! _ (ends-at 𝓤 H A own.ended stayed (own.clauses 𝓤 H A mem run) W (
+        (
+          (
+            κ-log,
+            (
+              κ-records,
+              (
+                κ-newest,
+                (κ-versions, (κ-results, tt)),
+              ),
+            ),
+          ),
+          (q-log, (q-records, (q-newest, (q-versions, (q-results, tt))))),
+          bounds,
+          a,
+          at,
+        ),
+        tt,
+      ) (Value.mach Z.the-type Z′.the-laws h) h (
+        tt,
+        (
+          tt,
+          (
+            tt,
+            (
+              tt,
+              (
+                tt,
+                (
+                  z-versions,
+                  (z-results, tt),
+                ),
+              ),
+            ),
+          ),
+        ),
+      ) (tt, (tt, (tt, (tt, (tt, (n-versions, (n-results, tt)))))))) $
+      says ! (e-0, (e-1, e-2)) $ nothing ! $ move ! (10 ∷ 0 ∷ []) $ join ! $ move ! (8 ∷ 0 ∷ []) $ join ! $
+      move ! (6 ∷ 0 ∷ []) $ join ! $ move ! (4 ∷ 0 ∷ []) $ join ! $ move ! (2 ∷ 0 ∷ []) $ join ! $ frame ! $
+      nothing ! $ move ! (5 ∷ 0 ∷ []) $ fjoin ! $ move ! (4 ∷ 0 ∷ []) $ fjoin ! $ move ! (3 ∷ 0 ∷ []) $ fjoin ! $
+      move ! (2 ∷ 0 ∷ []) $ fjoin ! $ move ! (1 ∷ 0 ∷ []) $ fjoin ! $
+      owned ! usize (Is usize) (uint-makes 𝓤 H A W w64) party _ (refl, g-party) $ fjoin ! $
+      owned ! S.the-row (Is S.the-row) (LL.makes S.the-type S′.the-plain 𝓤 H A) state _ g-state $ fjoin ! $
+      frame ! $ owned ! Z.the-row (Is Z.the-row) (LL.makes Z.the-type Z′.the-plain 𝓤 H A) h _ g-h $ done !
 
   module _ (𝓣 : Tables 𝓤 H) (k-turn : Triple 𝓤 (𝓣 .C #turn) (TurnCall 𝓤 H A mem run)) (k-carry-out : Triple 𝓤
       (𝓣 .C #carry-out) (CarryOut 𝓤 H A mem run)) (k-stepped-by : Triple 𝓤 (𝓣 .C #stepped-by)
@@ -234,20 +352,22 @@ module _ {M : Type 1} (𝓤 : URA M) (H : Heap 𝓤) (A : Atoms 𝓤) (W : Given
     fm : FmC 𝓤 H (W .laws) C
     fm = fmOf 𝓤 H (W .laws) 𝓣
 
-    walk : ent 𝓤 (onEntry 𝓤 H A own.signature (κ-log, (κ-records, (κ-newest, (κ-versions, (κ-results, tt))))) (q-log,
-        (q-records, (q-newest, (q-versions, (q-results, tt))))) a at) (WpFn 𝓤 H C Λ code.function
+    walk : ent 𝓤 (onEntry 𝓤 H A own.signature (κ-log, (κ-records, (κ-newest, (κ-versions, (κ-results, tt))))) (
+      q-log,
+      (q-records, (q-newest, (q-versions, (q-results, tt)))),
+    ) a at) (WpFn 𝓤 H C Λ code.function
         (Value.mach S.the-type S′.the-laws state ∷ vint w64 party ∷ sliceVal (b-log, o-log) m-log ∷ sliceVal
         (b-records, o-records) m-records ∷ sliceVal (b-newest, o-newest) m-newest ∷ sliceVal (b-versions, o-versions)
         m-versions ∷ sliceVal (b-results, o-results) m-results ∷ []) Post)
     walk =
         qed W ((‵ (flft κ-log q-log) ⊛ ‵ (flft κ-records q-records) ⊛ ‵ (flft κ-newest q-newest) ⊛ ‵
-            (flft κ-versions q-versions) ⊛ ‵ (flft κ-results q-results) ⊛ ‵ ftrue) ∷ ‵
-            (owns (S.the-row ∷ usize ∷ ShrSlice (named 0) κ-log u8 ∷ ShrSlice (named 1) κ-records u64 ∷ ShrSlice
-            (named 2) κ-newest u16 ∷ MutSlice (named 3) κ-versions T.the-row ∷ MutSlice (named 4) κ-results u64 ∷ [])
-            a at) ∷ []) ∵ enter ! C Λ code.function (Value.mach S.the-type S′.the-laws state ∷ vint w64 party
-            ∷ sliceVal (b-log, o-log) m-log ∷ sliceVal (b-records, o-records) m-records ∷ sliceVal
-            (b-newest, o-newest) m-newest ∷ sliceVal (b-versions, o-versions) m-versions ∷ sliceVal
-            (b-results, o-results) m-results ∷ []) _ $
+        (flft κ-versions q-versions) ⊛ ‵ (flft κ-results q-results) ⊛ ‵ ftrue) ∷ ‵
+        (owns (S.the-row ∷ usize ∷ ShrSlice (named 0) κ-log u8 ∷ ShrSlice (named 1) κ-records u64 ∷ ShrSlice
+        (named 2) κ-newest u16 ∷ MutSlice (named 3) κ-versions T.the-row ∷ MutSlice (named 4) κ-results u64 ∷ [])
+        a at) ∷ []) ∵ enter ! C Λ code.function (Value.mach S.the-type S′.the-laws state ∷ vint w64 party
+        ∷ sliceVal (b-log, o-log) m-log ∷ sliceVal (b-records, o-records) m-records ∷ sliceVal
+        (b-newest, o-newest) m-newest ∷ sliceVal (b-versions, o-versions) m-versions ∷ sliceVal
+        (b-results, o-results) m-results ∷ []) _ $
         alloc1 ! (λ l-0.
         alloc1 ! (λ l-1.
         alloc1 ! (λ l-2.
@@ -268,7 +388,7 @@ module _ {M : Type 1} (𝓤 : URA M) (H : Heap 𝓤) (A : Atoms 𝓤) (W : Given
         alloc0 ! $
         params1 ! $
         pass1 ! (init ! 30 refl (Value.typed S.the-type S′.the-laws 𝓤 H A W state
-            (Value.mach S.the-type S′.the-laws state) (refl, g-state))) $
+        (Value.mach S.the-type S′.the-laws state) (refl, g-state))) $
         pass1 ! (init ! 28 refl (tt, record { fits = g-party })) $
         pass1 ! (init ! 26 refl (tt, (tt, (record { fits = room-log .0 }, tt)))) $
         pass1 ! (init ! 24 refl (tt, (tt, (record { fits = room-records .0 }, tt)))) $
@@ -305,57 +425,61 @@ module _ {M : Type 1} (𝓤 : URA M) (H : Heap 𝓤) (A : Atoms 𝓤) (W : Given
         move ! (1 ∷ []) $
         drop ! $
         assigns ! (addr ! (from ! (fld ! refl (hop ! (look-in ! 30 (sub ! 0 refl (whole !))) (stop !))))) (from !
-            (stop !)) (init ! 24 refl (tt, tt)) $
+        (stop !)) (init ! 24 refl (tt, tt)) $
         assigns ! (agg ! (and-then ! (load ! (from ! (stop !)) (look ! 24 refl)) (and-then ! (load ! (from !
-            (fld ! refl (stop !))) (look-in ! 30 (sub ! 1 refl (whole !)))) (no-more !)))) (from ! (stop !))
-            (init ! 22 refl (tt, (tt, (record { fits = room-versions .0 }, tt)))) $
+        (fld ! refl (stop !))) (look-in ! 30 (sub ! 1 refl (whole !)))) (no-more !)))) (from ! (stop !))
+        (init ! 22 refl (tt, (tt, (record { fits = room-versions .0 }, tt)))) $
         assigns ! (of-opd ! (load ! (from ! (fld ! refl (stop !))) (look-in ! 28 (sub ! 1 refl (whole !))))) (from !
-            (stop !)) (init ! 20 refl (tt, record { fits = room-results .0 })) $
+        (stop !)) (init ! 20 refl (tt, record { fits = room-results .0 })) $
         move ! (9 ∷ []) $
         use1 W (‵ (sees u8 b-log o-log m-log κ-log δ-log log) ⊛ ‵ (sees u8 b-log o-log m-log κ-log δ-log log))
-            (shr-slice-copy 𝓤 H A W (named 0) κ-log u8 .twice (record { ptr =
-            (b-log, o-log); name = δ-log; now = log }) (sliceVal (b-log, o-log) m-log ∷ [])) $
+        (shr-slice-copy 𝓤 H A W (named 0) κ-log u8 .twice (record {
+          ptr =
+              (b-log, o-log);
+          name = δ-log;
+          now = log;
+        }) (sliceVal (b-log, o-log) m-log ∷ [])) $
         split ! $
         move ! (10 ∷ []) $
         use1 W (‵ (sees u64 b-records o-records m-records κ-records δ-records records) ⊛ ‵
-            (sees u64 b-records o-records m-records κ-records δ-records records)) (shr-slice-copy 𝓤 H A W (named 0)
-            κ-records u64 .twice (record { ptr = (b-records, o-records); name = δ-records; now = records }) (sliceVal
-            (b-records, o-records) m-records ∷ [])) $
+        (sees u64 b-records o-records m-records κ-records δ-records records)) (shr-slice-copy 𝓤 H A W (named 0)
+        κ-records u64 .twice (record { ptr = (b-records, o-records); name = δ-records; now = records }) (sliceVal
+        (b-records, o-records) m-records ∷ [])) $
         split ! $
         move ! (11 ∷ []) $
         use1 W (‵ (sees u16 b-newest o-newest m-newest κ-newest δ-newest newest) ⊛ ‵
-            (sees u16 b-newest o-newest m-newest κ-newest δ-newest newest)) (shr-slice-copy 𝓤 H A W (named 0)
-            κ-newest u16 .twice (record { ptr = (b-newest, o-newest); name = δ-newest; now = newest }) (sliceVal
-            (b-newest, o-newest) m-newest ∷ [])) $
+        (sees u16 b-newest o-newest m-newest κ-newest δ-newest newest)) (shr-slice-copy 𝓤 H A W (named 0)
+        κ-newest u16 .twice (record { ptr = (b-newest, o-newest); name = δ-newest; now = newest }) (sliceVal
+        (b-newest, o-newest) m-newest ∷ [])) $
         split ! $
         move ! (12 ∷ 7 ∷ []) $
         lend-shr 𝓤 H A W T.the-row b-versions o-versions m-versions versions (refl)
-            room-versions ! tt κ-versions q-versions δ-versions (λ ν-versions1 δ-versions1.
+        room-versions ! tt κ-versions q-versions δ-versions (λ ν-versions1 δ-versions1.
         move ! (12 ∷ 7 ∷ 11 ∷ 5 ∷ 10 ∷ 3 ∷ 0 ∷ 1 ∷ []) $
         use8 W (raw (TurnCall 𝓤 H A mem run .pre (to-turn 𝓤 H A W mem run state party log records newest versions
-            m-results b-log o-log m-log b-records o-records m-records b-newest o-newest m-newest b-versions
-            o-versions m-versions κ-log q-log δ-log κ-records q-records δ-records κ-newest q-newest δ-newest
-            (ν-versions1 ∷ []) fullShare δ-versions1))) (turn-goes 𝓤 H A W mem run state party log records newest
-            versions m-results b-log o-log m-log b-records o-records m-records b-newest o-newest m-newest b-versions
-            o-versions m-versions κ-log q-log δ-log κ-records q-records δ-records κ-newest q-newest δ-newest
-            (ν-versions1 ∷ []) fullShare δ-versions1 g-state g-party (room-results .0)) $
+        m-results b-log o-log m-log b-records o-records m-records b-newest o-newest m-newest b-versions
+        o-versions m-versions κ-log q-log δ-log κ-records q-records δ-records κ-newest q-newest δ-newest
+        (ν-versions1 ∷ []) fullShare δ-versions1))) (turn-goes 𝓤 H A W mem run state party log records newest
+        versions m-results b-log o-log m-log b-records o-records m-records b-newest o-newest m-newest b-versions
+        o-versions m-versions κ-log q-log δ-log κ-records q-records δ-records κ-newest q-newest δ-newest
+        (ν-versions1 ∷ []) fullShare δ-versions1 g-state g-party (room-results .0)) $
         calls-at ! fm (TurnCall 𝓤 H A mem run) k-turn (to-turn 𝓤 H A W mem run state party log records newest
-            versions m-results b-log o-log m-log b-records o-records m-records b-newest o-newest m-newest b-versions
-            o-versions m-versions κ-log q-log δ-log κ-records q-records δ-records κ-newest q-newest δ-newest
-            (ν-versions1 ∷ []) fullShare δ-versions1) (and-then ! (load ! (from ! (stop !)) (look ! 37 refl))
-            (and-then ! (load ! (from ! (stop !)) (look ! 35 refl)) (and-then ! (load ! (from ! (stop !))
-            (look ! 33 refl)) (and-then ! (load ! (from ! (stop !)) (look ! 31 refl)) (and-then ! (load ! (from !
-            (stop !)) (look ! 29 refl)) (and-then ! (load ! (from ! (stop !)) (look ! 19 refl)) (and-then ! (load !
-            (from ! (stop !)) (look ! 17 refl)) (no-more !)))))))) (λ u1.
+        versions m-results b-log o-log m-log b-records o-records m-records b-newest o-newest m-newest b-versions
+        o-versions m-versions κ-log q-log δ-log κ-records q-records δ-records κ-newest q-newest δ-newest
+        (ν-versions1 ∷ []) fullShare δ-versions1) (and-then ! (load ! (from ! (stop !)) (look ! 37 refl))
+        (and-then ! (load ! (from ! (stop !)) (look ! 35 refl)) (and-then ! (load ! (from ! (stop !))
+        (look ! 33 refl)) (and-then ! (load ! (from ! (stop !)) (look ! 31 refl)) (and-then ! (load ! (from !
+        (stop !)) (look ! 29 refl)) (and-then ! (load ! (from ! (stop !)) (look ! 19 refl)) (and-then ! (load !
+        (from ! (stop !)) (look ! 17 refl)) (no-more !)))))))) (λ u1.
         use1 W (later (some (λ (x : Unit {0}). given
-            (turn-said 𝓤 H A W mem run state party log records newest versions m-results b-log o-log m-log b-records
-            o-records m-records b-newest o-newest m-newest b-versions o-versions m-versions κ-log q-log δ-log
-            κ-records q-records δ-records κ-newest q-newest δ-newest (ν-versions1 ∷ []) fullShare δ-versions1 u1 x)
-            (‵ (flft κ-log q-log) ⊛ ‵ (flft κ-records q-records) ⊛ ‵ (flft κ-newest q-newest) ⊛ ‵
-            (flft (ν-versions1 ∷ []) fullShare))))) (turn-gives 𝓤 H A W mem run state party log records newest
-            versions m-results b-log o-log m-log b-records o-records m-records b-newest o-newest m-newest b-versions
-            o-versions m-versions κ-log q-log δ-log κ-records q-records δ-records κ-newest q-newest δ-newest
-            (ν-versions1 ∷ []) fullShare δ-versions1 u1) $ await ! tt $ pick ! (λ x1. learn ! (λ s1.
+        (turn-said 𝓤 H A W mem run state party log records newest versions m-results b-log o-log m-log b-records
+        o-records m-records b-newest o-newest m-newest b-versions o-versions m-versions κ-log q-log δ-log
+        κ-records q-records δ-records κ-newest q-newest δ-newest (ν-versions1 ∷ []) fullShare δ-versions1 u1 x)
+        (‵ (flft κ-log q-log) ⊛ ‵ (flft κ-records q-records) ⊛ ‵ (flft κ-newest q-newest) ⊛ ‵
+        (flft (ν-versions1 ∷ []) fullShare))))) (turn-gives 𝓤 H A W mem run state party log records newest
+        versions m-results b-log o-log m-log b-records o-records m-records b-newest o-newest m-newest b-versions
+        o-versions m-versions κ-log q-log δ-log κ-records q-records δ-records κ-newest q-newest δ-newest
+        (ν-versions1 ∷ []) fullShare δ-versions1 u1) $ await ! tt $ pick ! (λ x1. learn ! (λ s1.
         split ! $
         move ! (1 ∷ []) $
         split ! $
@@ -364,46 +488,46 @@ module _ {M : Type 1} (𝓤 : URA M) (H : Heap 𝓤) (A : Atoms 𝓤) (W : Given
         move ! (1 ∷ []) $
         move ! (0 ∷ 4 ∷ []) $
         back-shr 𝓤 H A W T.the-row b-versions o-versions m-versions versions (refl)
-            room-versions ! tt κ-versions q-versions δ-versions ν-versions1 (
+        room-versions ! tt κ-versions q-versions δ-versions ν-versions1 (
         land ! (from ! (stop !)) (init ! 26 refl (Value.typed M′.the-type M′′.the-laws 𝓤 H A W
-            (turnOf state party log records newest versions m-results) u1 (s1))) $
+        (turnOf state party log records newest versions m-results) u1 (s1))) $
         rewrite ! 26 (λ (z : Val). ‵ (fat fullShare (τ 8) l-8 0 z)) (s1 .0) refl $
         assigns ! (addr ! (from ! (fld ! refl (hop ! (look-in ! 30 (sub ! 0 refl (whole !))) (stop !))))) (from !
-            (stop !)) (init ! 16 refl (tt, tt)) $
+        (stop !)) (init ! 16 refl (tt, tt)) $
         assigns ! (agg ! (and-then ! (load ! (from ! (stop !)) (look ! 16 refl)) (and-then ! (load ! (from !
-            (fld ! refl (stop !))) (look-in ! 30 (sub ! 1 refl (whole !)))) (no-more !)))) (from ! (stop !))
-            (init ! 14 refl (tt, (tt, (record { fits = room-versions .0 }, tt)))) $
+        (fld ! refl (stop !))) (look-in ! 30 (sub ! 1 refl (whole !)))) (no-more !)))) (from ! (stop !))
+        (init ! 14 refl (tt, (tt, (record { fits = room-versions .0 }, tt)))) $
         assigns ! (addr ! (from ! (fld ! refl (hop ! (look-in ! 28 (sub ! 0 refl (whole !))) (stop !))))) (from !
-            (stop !)) (init ! 12 refl (tt, tt)) $
+        (stop !)) (init ! 12 refl (tt, tt)) $
         assigns ! (agg ! (and-then ! (load ! (from ! (stop !)) (look ! 12 refl)) (and-then ! (load ! (from !
-            (fld ! refl (stop !))) (look-in ! 28 (sub ! 1 refl (whole !)))) (no-more !)))) (from ! (stop !))
-            (init ! 10 refl (tt, (tt, (record { fits = room-results .0 }, tt)))) $
+        (fld ! refl (stop !))) (look-in ! 28 (sub ! 1 refl (whole !)))) (no-more !)))) (from ! (stop !))
+        (init ! 10 refl (tt, (tt, (record { fits = room-results .0 }, tt)))) $
         lend-mut 𝓤 H A W T.the-row b-versions o-versions m-versions versions (refl)
-            room-versions ! tt κ-versions q-versions δ-versions (λ ν-versions2 δ-versions2.
+        room-versions ! tt κ-versions q-versions δ-versions (λ ν-versions2 δ-versions2.
         move ! (10 ∷ 9 ∷ []) $
         lend-mut 𝓤 H A W u64 b-results o-results m-results results (refl)
-            room-results ! tt κ-results q-results δ-results (λ ν-results2 δ-results2.
+        room-results ! tt κ-results q-results δ-results (λ ν-results2 δ-results2.
         move ! (3 ∷ 4 ∷ 0 ∷ 1 ∷ []) $
         use4 W (raw (CarryOut 𝓤 H A mem run .pre (to-carry-out 𝓤 H A W mem run versions results
-            (turnOf state party log records newest versions m-results) b-versions o-versions m-versions b-results
-            o-results m-results (ν-versions2 ∷ []) fullShare δ-versions2 (ν-results2 ∷ []) fullShare δ-results2)))
-            (carry-out-goes 𝓤 H A W mem run versions results (turnOf state party log records newest versions
-            m-results) b-versions o-versions m-versions b-results o-results m-results (ν-versions2 ∷ [])
-            fullShare δ-versions2 (ν-results2 ∷ []) fullShare δ-results2 (s1 .1)) $
+        (turnOf state party log records newest versions m-results) b-versions o-versions m-versions b-results
+        o-results m-results (ν-versions2 ∷ []) fullShare δ-versions2 (ν-results2 ∷ []) fullShare δ-results2)))
+        (carry-out-goes 𝓤 H A W mem run versions results (turnOf state party log records newest versions
+        m-results) b-versions o-versions m-versions b-results o-results m-results (ν-versions2 ∷ [])
+        fullShare δ-versions2 (ν-results2 ∷ []) fullShare δ-results2 (s1 .1)) $
         calls-at ! fm (CarryOut 𝓤 H A mem run) k-carry-out (to-carry-out 𝓤 H A W mem run versions results
-            (turnOf state party log records newest versions m-results) b-versions o-versions m-versions b-results
-            o-results m-results (ν-versions2 ∷ []) fullShare δ-versions2 (ν-results2 ∷ []) fullShare δ-results2)
-            (and-then ! (load ! (from ! (stop !)) (look ! 13 refl)) (and-then ! (load ! (from ! (stop !))
-            (look ! 9 refl)) (and-then ! (load ! (from ! (stop !)) (look ! 25 refl)) (no-more !)))) (λ u2.
+        (turnOf state party log records newest versions m-results) b-versions o-versions m-versions b-results
+        o-results m-results (ν-versions2 ∷ []) fullShare δ-versions2 (ν-results2 ∷ []) fullShare δ-results2)
+        (and-then ! (load ! (from ! (stop !)) (look ! 13 refl)) (and-then ! (load ! (from ! (stop !))
+        (look ! 9 refl)) (and-then ! (load ! (from ! (stop !)) (look ! 25 refl)) (no-more !)))) (λ u2.
         use1 W (later (some (λ (x : (List Version) × (List ℕ)). given
-            (carry-out-said 𝓤 H A W mem run versions results (turnOf state party log records newest versions
-            m-results) b-versions o-versions m-versions b-results o-results m-results (ν-versions2 ∷ [])
-            fullShare δ-versions2 (ν-results2 ∷ []) fullShare δ-results2 u2 x) (‵ (flft (ν-versions2 ∷ []) fullShare)
-            ⊛ ‵ (finally T.the-row δ-versions2 (x .0)) ⊛ ‵ (flft (ν-results2 ∷ []) fullShare) ⊛ ‵
-            (finally u64 δ-results2 (x .1)))))) (carry-out-gives 𝓤 H A W mem run versions results
-            (turnOf state party log records newest versions m-results) b-versions o-versions m-versions b-results
-            o-results m-results (ν-versions2 ∷ []) fullShare δ-versions2 (ν-results2 ∷ []) fullShare δ-results2 u2) $
-            await ! tt $ pick ! (λ x2. learn ! (λ s2.
+        (carry-out-said 𝓤 H A W mem run versions results (turnOf state party log records newest versions
+        m-results) b-versions o-versions m-versions b-results o-results m-results (ν-versions2 ∷ [])
+        fullShare δ-versions2 (ν-results2 ∷ []) fullShare δ-results2 u2 x) (‵ (flft (ν-versions2 ∷ []) fullShare)
+        ⊛ ‵ (finally T.the-row δ-versions2 (x .0)) ⊛ ‵ (flft (ν-results2 ∷ []) fullShare) ⊛ ‵
+        (finally u64 δ-results2 (x .1)))))) (carry-out-gives 𝓤 H A W mem run versions results
+        (turnOf state party log records newest versions m-results) b-versions o-versions m-versions b-results
+        o-results m-results (ν-versions2 ∷ []) fullShare δ-versions2 (ν-results2 ∷ []) fullShare δ-results2 u2) $
+        await ! tt $ pick ! (λ x2. learn ! (λ s2.
         split ! $
         move ! (1 ∷ []) $
         split ! $
@@ -412,30 +536,30 @@ module _ {M : Type 1} (𝓤 : URA M) (H : Heap 𝓤) (A : Atoms 𝓤) (W : Given
         move ! (1 ∷ []) $
         move ! (3 ∷ 2 ∷ 5 ∷ []) $
         back-mut 𝓤 H A W T.the-row b-versions o-versions m-versions versions (refl)
-            room-versions ! tt κ-versions q-versions δ-versions ν-versions2 δ-versions2 (x2 .0) (s2 .1 .1 .1 .0) (
+        room-versions ! tt κ-versions q-versions δ-versions ν-versions2 δ-versions2 (x2 .0) (s2 .1 .1 .1 .0) (
         rewrite ! 0 (λ (l : List Version). ‵
-            (holds T.the-row b-versions o-versions m-versions κ-versions δ-versions l)) (s2 .1 .0) refl $
+        (holds T.the-row b-versions o-versions m-versions κ-versions δ-versions l)) (s2 .1 .0) refl $
         move ! (3 ∷ 2 ∷ 4 ∷ []) $
         back-mut 𝓤 H A W u64 b-results o-results m-results results (refl)
-            room-results ! tt κ-results q-results δ-results ν-results2 δ-results2 (x2 .1) (s2 .1 .1 .1 .1) (
+        room-results ! tt κ-results q-results δ-results ν-results2 δ-results2 (x2 .1) (s2 .1 .1 .1 .1) (
         rewrite ! 0 (λ (l : List ℕ). ‵ (holds u64 b-results o-results m-results κ-results δ-results l)) (s2 .1 .1 .0)
-            refl $
+        refl $
         land ! (from ! (stop !)) (init ! 18 refl (unit-typed u2 (s2 .0))) $
         use0 W (raw (SteppedBy 𝓤 H A mem run .pre (to-stepped-by 𝓤 H A W mem run state party
-            (turnOf state party log records newest versions m-results))))
-            (stepped-by-goes 𝓤 H A W mem run state party (turnOf state party log records newest versions m-results)
-            g-state g-party (s1 .1)) $
+        (turnOf state party log records newest versions m-results))))
+        (stepped-by-goes 𝓤 H A W mem run state party (turnOf state party log records newest versions m-results)
+        g-state g-party (s1 .1)) $
         calls-at ! fm (SteppedBy 𝓤 H A mem run) k-stepped-by (to-stepped-by 𝓤 H A W mem run state party
-            (turnOf state party log records newest versions m-results)) (and-then ! (load ! (from ! (stop !))
-            (look ! 41 refl)) (and-then ! (load ! (from ! (stop !)) (look ! 39 refl)) (and-then ! (load ! (from !
-            (stop !)) (look ! 27 refl)) (no-more !)))) (λ u3.
+        (turnOf state party log records newest versions m-results)) (and-then ! (load ! (from ! (stop !))
+        (look ! 41 refl)) (and-then ! (load ! (from ! (stop !)) (look ! 39 refl)) (and-then ! (load ! (from !
+        (stop !)) (look ! 27 refl)) (no-more !)))) (λ u3.
         use1 W (later (some (λ (x : Unit {0}). given (stepped-by-said 𝓤 H A W mem run state party
-            (turnOf state party log records newest versions m-results) u3 x) (raw (emp 𝓤)))))
-            (stepped-by-gives 𝓤 H A W mem run state party (turnOf state party log records newest versions m-results)
-            u3) $ await ! tt $ pick ! (λ x3. learn ! (λ s3.
+        (turnOf state party log records newest versions m-results) u3 x) (raw (emp 𝓤)))))
+        (stepped-by-gives 𝓤 H A W mem run state party (turnOf state party log records newest versions m-results)
+        u3) $ await ! tt $ pick ! (λ x3. learn ! (λ s3.
         drop ! $
         land ! (from ! (stop !)) (init ! 42 refl (Value.typed Z.the-type Z′.the-laws 𝓤 H A W (steppedBy state party
-            (turnOf state party log records newest versions m-results)) u3 (s3))) $
+        (turnOf state party log records newest versions m-results)) u3 (s3))) $
         rewrite ! 42 (λ (z : Val). ‵ (fat fullShare (τ 0) l-0 0 z)) (s3 .0) refl $
         returns ! (look ! 42 refl) $
         forget ! 42 refl $
@@ -492,14 +616,14 @@ module _ {M : Type 1} (𝓤 : URA M) (H : Heap 𝓤) (A : Atoms 𝓤) (W : Given
         free0 ! $
         move ! (9 ∷ 6 ∷ 8 ∷ 5 ∷ 7 ∷ 4 ∷ 2 ∷ 3 ∷ 0 ∷ 1 ∷ []) $
         by ! (exits (steppedBy state party (turnOf state party log records newest versions m-results))
-            (fillOf versions (fillBy ((turnOf state party log records newest versions m-results) .step)
-            (length versions))) (resultsBy results (turnOf state party log records newest versions m-results))
-            (advance-stepped state party log records newest versions results)
-            (advance-versions state party log records newest versions results)
-            (advance-results state party log records newest versions results)
-            (sym (ap (λ (l : List Version). length l) (s2 .1 .0)) ∙ s2 .1 .1 .1 .0 ∙ refl)
-            (sym (ap (λ (l : List ℕ). length l) (s2 .1 .1 .0)) ∙ s2 .1 .1 .1 .1 ∙ refl)
-            (s3 .1))))))))))))))))))))))))))))))))))
+        (fillOf versions (fillBy ((turnOf state party log records newest versions m-results) .step)
+        (length versions))) (resultsBy results (turnOf state party log records newest versions m-results))
+        (advance-stepped state party log records newest versions results)
+        (advance-versions state party log records newest versions results)
+        (advance-results state party log records newest versions results)
+        (sym (ap (λ (l : List Version). length l) (s2 .1 .0)) ∙ s2 .1 .1 .1 .0 ∙ refl)
+        (sym (ap (λ (l : List ℕ). length l) (s2 .1 .1 .0)) ∙ s2 .1 .1 .1 .1 ∙ refl)
+        (s3 .1))))))))))))))))))))))))))))))))))
 
 module _ {M : Type 1} (𝓤 : URA M) (H : Heap 𝓤) (A : Atoms 𝓤) (W : Given 𝓤 H A) (mem : Memory
     → SProp 𝓤) (run : Routine → Fun 𝓤) where
@@ -507,34 +631,89 @@ module _ {M : Type 1} (𝓤 : URA M) (H : Heap 𝓤) (A : Atoms 𝓤) (W : Given
       → Triple 𝓤 (𝓣 .C #carry-out) (CarryOut 𝓤 H A mem run) → Triple 𝓤 (𝓣 .C #stepped-by) (SteppedBy 𝓤 H A mem run)
       → Walks 𝓤 H A own.ended stayed (WpFn 𝓤 H (𝓣 .C) (𝓣 .Λ) code.function) (own.clauses 𝓤 H A mem run)
   own-walks 𝓣 k-turn k-carry-out k-stepped-by =
-      walked 𝓤 H A own.ended stayed (own.clauses 𝓤 H A mem run) (WpFn 𝓤 H (𝓣 .C) (𝓣 .Λ) code.function) (λ κs.
-          (LL.vals S.the-type S′.the-laws, (uint-vals w64, (slice-vals, (slice-vals, (slice-vals, (slice-vals,
-          (slice-vals, tt)))))))) (λ κs. (LL.tells S.the-type S′.the-laws, (uint-tells w64, (shr-slice-tells
-          (named 0) (κs .0) u8, (shr-slice-tells (named 1) (κs .1 .0) u64, (shr-slice-tells (named 2) (κs .1 .1 .0)
-          u16, (mut-slice-tells (named 3) (κs .1 .1 .1 .0) T.the-row, (mut-slice-tells (named 4) (κs .1 .1 .1 .1 .0)
-          u64, tt)))))))) (λ κs qs bounds a g are. via 𝓤 _ (fst∗ 𝓤 _ (emp 𝓤)) (walk 𝓤 H A W mem run (κs .0)
-          (κs .1 .0) (κs .1 .1 .0) (κs .1 .1 .1 .0) (κs .1 .1 .1 .1 .0) bounds (qs .0) (qs .1 .0) (qs .1 .1 .0)
-          (qs .1 .1 .1 .0) (qs .1 .1 .1 .1 .0) (a .0) (a .1 .0) (a .1 .1 .0 .ptr .0) (a .1 .1 .0 .ptr .1)
-          (a .1 .1 .0 .name) (a .1 .1 .0 .now) (a .1 .1 .1 .0 .ptr .0) (a .1 .1 .1 .0 .ptr .1) (a .1 .1 .1 .0 .name)
-          (a .1 .1 .1 .0 .now) (a .1 .1 .1 .1 .0 .ptr .0) (a .1 .1 .1 .1 .0 .ptr .1) (a .1 .1 .1 .1 .0 .name)
-          (a .1 .1 .1 .1 .0 .now) (a .1 .1 .1 .1 .1 .0 .ptr .0) (a .1 .1 .1 .1 .1 .0 .ptr .1)
-          (a .1 .1 .1 .1 .1 .0 .name) (a .1 .1 .1 .1 .1 .0 .now) (a .1 .1 .1 .1 .1 .1 .0 .ptr .0)
-          (a .1 .1 .1 .1 .1 .1 .0 .ptr .1) (a .1 .1 .1 .1 .1 .1 .0 .name) (a .1 .1 .1 .1 .1 .1 .0 .now) (are .0)
-          (are .1 .0 .1) (are .1 .1 .0 .0 .1) (are .1 .1 .1 .0 .0 .1) (are .1 .1 .1 .1 .0 .0 .1)
-          (are .1 .1 .1 .1 .1 .0 .0 .1) (are .1 .1 .1 .1 .1 .1 .0 .0 .1) 𝓣 k-turn k-carry-out k-stepped-by))
+      walked 𝓤 H A own.ended stayed (own.clauses 𝓤 H A mem run) (WpFn 𝓤 H (𝓣 .C) (𝓣 .Λ) code.function) (λ κs. (
+        LL.vals S.the-type S′.the-laws,
+        (
+          uint-vals w64,
+          (
+            slice-vals,
+            (
+              slice-vals,
+              (
+                slice-vals,
+                (
+                  slice-vals,
+                  (slice-vals, tt),
+                ),
+              ),
+            ),
+          ),
+        ),
+      )) (λ κs. (
+        LL.tells S.the-type S′.the-laws,
+        (
+          uint-tells w64,
+          (
+            shr-slice-tells
+                (named 0) (κs .0) u8,
+            (
+              shr-slice-tells (named 1) (κs .1 .0) u64,
+              (
+                shr-slice-tells (named 2) (κs .1 .1 .0)
+                    u16,
+                (
+                  mut-slice-tells (named 3) (κs .1 .1 .1 .0) T.the-row,
+                  (
+                    mut-slice-tells (named 4) (κs .1 .1 .1 .1 .0)
+                        u64,
+                    tt,
+                  ),
+                ),
+              ),
+            ),
+          ),
+        ),
+      )) (λ κs qs bounds a g are. via 𝓤 _ (fst∗ 𝓤 _ (emp 𝓤)) (walk 𝓤 H A W mem run (κs .0)
+      (κs .1 .0) (κs .1 .1 .0) (κs .1 .1 .1 .0) (κs .1 .1 .1 .1 .0) bounds (qs .0) (qs .1 .0) (qs .1 .1 .0)
+      (qs .1 .1 .1 .0) (qs .1 .1 .1 .1 .0) (a .0) (a .1 .0) (a .1 .1 .0 .ptr .0) (a .1 .1 .0 .ptr .1)
+      (a .1 .1 .0 .name) (a .1 .1 .0 .now) (a .1 .1 .1 .0 .ptr .0) (a .1 .1 .1 .0 .ptr .1) (a .1 .1 .1 .0 .name)
+      (a .1 .1 .1 .0 .now) (a .1 .1 .1 .1 .0 .ptr .0) (a .1 .1 .1 .1 .0 .ptr .1) (a .1 .1 .1 .1 .0 .name)
+      (a .1 .1 .1 .1 .0 .now) (a .1 .1 .1 .1 .1 .0 .ptr .0) (a .1 .1 .1 .1 .1 .0 .ptr .1)
+      (a .1 .1 .1 .1 .1 .0 .name) (a .1 .1 .1 .1 .1 .0 .now) (a .1 .1 .1 .1 .1 .1 .0 .ptr .0)
+      (a .1 .1 .1 .1 .1 .1 .0 .ptr .1) (a .1 .1 .1 .1 .1 .1 .0 .name) (a .1 .1 .1 .1 .1 .1 .0 .now) (are .0)
+      (are .1 .0 .1) (are .1 .1 .0 .0 .1) (are .1 .1 .1 .0 .0 .1) (are .1 .1 .1 .1 .0 .0 .1)
+      (are .1 .1 .1 .1 .1 .0 .0 .1) (are .1 .1 .1 .1 .1 .1 .0 .0 .1) 𝓣 k-turn k-carry-out k-stepped-by))
 
 own-meets : {M : Type 1} (𝓤 : URA M) (H : Heap 𝓤) (A : Atoms 𝓤) → Given 𝓤 H A → (mem : Memory
     → SProp 𝓤) (run : Routine → Fun 𝓤) (𝓣 : Tables 𝓤 H) → Triple 𝓤 (𝓣 .C #turn) (TurnCall 𝓤 H A mem run)
     → Triple 𝓤 (𝓣 .C #carry-out) (CarryOut 𝓤 H A mem run) → Triple 𝓤 (𝓣 .C #stepped-by) (SteppedBy 𝓤 H A mem run)
     → Meets 𝓤 H A own.signature (WpFn 𝓤 H (𝓣 .C) (𝓣 .Λ) code.function) (own.spec 𝓤 H A mem run)
 own-meets 𝓤 H A W mem run 𝓣 k-turn k-carry-out k-stepped-by =
-    walk-meets 𝓤 H A own.ended stayed W (goes-none 𝓤 H A W 5 (λ _. S.the-row) yes (λ κs x f.
-        refl), (goes-none 𝓤 H A W 5 (λ _. usize) yes (λ κs x f. refl), (goes-none-slice 𝓤 H A W 5 (0 ∷ []) tt (plain
-        (λ _. u8)) yes, (goes-none-slice 𝓤 H A W 5 (1 ∷ []) tt (plain (λ _. u64)) yes, (goes-none-slice 𝓤 H A W 5
-        (2 ∷ []) tt (plain (λ _. u16)) yes, (goes-slice 𝓤 H A W 5 3 tt (plain (λ _.
-        T.the-row)), (goes-slice 𝓤 H A W 5 4 tt (plain (λ _. u64)), tt))))))) (own.clauses 𝓤 H A mem run) (WpFn 𝓤 H
-        (𝓣 .C) (𝓣 .Λ) code.function) (WpFn-mono 𝓤 H (W .laws) 𝓣 code.function)
-        (own-walks 𝓤 H A W mem run 𝓣 k-turn k-carry-out k-stepped-by)
+    walk-meets 𝓤 H A own.ended stayed W (
+      goes-none 𝓤 H A W 5 (λ _. S.the-row) yes (λ κs x f.
+          refl),
+      (
+        goes-none 𝓤 H A W 5 (λ _. usize) yes (λ κs x f. refl),
+        (
+          goes-none-slice 𝓤 H A W 5 (0 ∷ []) tt (plain
+              (λ _. u8)) yes,
+          (
+            goes-none-slice 𝓤 H A W 5 (1 ∷ []) tt (plain (λ _. u64)) yes,
+            (
+              goes-none-slice 𝓤 H A W 5
+                  (2 ∷ []) tt (plain (λ _. u16)) yes,
+              (
+                goes-slice 𝓤 H A W 5 3 tt (plain (λ _.
+                    T.the-row)),
+                (goes-slice 𝓤 H A W 5 4 tt (plain (λ _. u64)), tt),
+              ),
+            ),
+          ),
+        ),
+      ),
+    ) (own.clauses 𝓤 H A mem run) (WpFn 𝓤 H
+    (𝓣 .C) (𝓣 .Λ) code.function) (WpFn-mono 𝓤 H (W .laws) 𝓣 code.function)
+    (own-walks 𝓤 H A W mem run 𝓣 k-turn k-carry-out k-stepped-by)
 
 pub advance-spec : {M : Type 1} → stated.statement M
 unfolding code.routine tablesOf
@@ -543,8 +722,8 @@ advance-spec 𝓤 H 𝓜 𝓖 𝓡 =
     (tables 𝓤 H 𝓜 𝓡 code.env .C) (tables 𝓤 H 𝓜 𝓡 code.env .Λ) #own code.function (code.unfolded 𝓤 H 𝓜 𝓡)
     (own-meets 𝓤 H (𝓖 .A) (givenOf 𝓤 H 𝓜 𝓖) (𝓜 .mem) (𝓡 .run) (tablesOf 𝓤 H 𝓜 (tables 𝓤 H 𝓜 𝓡 code.env))
     (cited 𝓤 H (TurnCall 𝓤 H (𝓖 .A) (𝓜 .mem) (𝓡 .run))
-        𝓜 𝓡 code.env #turn turn-def.routine code.calls-engine·State·turn (turn-thm.met 𝓤 H 𝓜 𝓖 𝓡))
+    𝓜 𝓡 code.env #turn turn-def.routine code.calls-engine·State·turn (turn-thm.met 𝓤 H 𝓜 𝓖 𝓡))
     (cited 𝓤 H (CarryOut 𝓤 H (𝓖 .A) (𝓜 .mem) (𝓡 .run)) 𝓜 𝓡 code.env #carry-out carry-out-def.routine
-        code.calls-engine·advance·carry-out (carry-out-thm.met 𝓤 H 𝓜 𝓖 𝓡))
+    code.calls-engine·advance·carry-out (carry-out-thm.met 𝓤 H 𝓜 𝓖 𝓡))
     (cited 𝓤 H (SteppedBy 𝓤 H (𝓖 .A) (𝓜 .mem) (𝓡 .run)) 𝓜 𝓡 code.env #stepped-by stepped-by-def.routine
-        code.calls-engine·State·stepped-by (stepped-by-thm.met 𝓤 H 𝓜 𝓖 𝓡)))
+    code.calls-engine·State·stepped-by (stepped-by-thm.met 𝓤 H 𝓜 𝓖 𝓡)))

@@ -158,9 +158,21 @@ use Rattle.engine.proofs.State.open.Code as code
 use Rattle.engine.proofs.State.open.Code.Mir as mir′
 
 abbrev stayed : Stays (own.ended .signature .params) (own.ended .kept)
-stayed = (stay-none (λ _. S.the-row) yes, (stay-none-slice (0 ∷ []) tt (plain (λ _.
-    u8)) yes, (stay-slice (1 ∷ []) tt (plain (λ _. u16)), (stay-slice (2 ∷ []) tt (plain (λ _.
-    T.the-row)), (stay-slice (3 ∷ []) tt (plain (λ _. u64)), tt)))))
+stayed = (
+  stay-none (λ _. S.the-row) yes,
+  (
+    stay-none-slice (0 ∷ []) tt (plain (λ _.
+        u8)) yes,
+    (
+      stay-slice (1 ∷ []) tt (plain (λ _. u16)),
+      (
+        stay-slice (2 ∷ []) tt (plain (λ _.
+            T.the-row)),
+        (stay-slice (3 ∷ []) tt (plain (λ _. u64)), tt),
+      ),
+    ),
+  ),
+)
 
 abbrev τ : ℕ → Ty
 τ = tyAt mir′.locals
@@ -186,19 +198,78 @@ module _ {M : Type 1} (𝓤 : URA M) (H : Heap 𝓤) (A : Atoms 𝓤) (W : Given
   m-results = length results
 
   abbrev a : (State × (RefT (List ℕ) × (RefT (List ℕ) × (RefT (List Version) × (RefT (List ℕ) × Unit {0})))))
-  a = (state, (record { ptr = (b-log, o-log); name = δ-log; now = log }, (record { ptr =
-      (b-newest, o-newest); name = δ-newest; now = newest }, (record { ptr =
-      (b-versions, o-versions); name = δ-versions; now = versions }, (record { ptr =
-      (b-results, o-results); name = δ-results; now = results }, tt)))))
+  a = (
+    state,
+    (
+      record { ptr = (b-log, o-log); name = δ-log; now = log },
+      (
+        record {
+          ptr =
+              (b-newest, o-newest);
+          name = δ-newest;
+          now = newest;
+        },
+        (
+          record {
+            ptr =
+                (b-versions, o-versions);
+            name = δ-versions;
+            now = versions;
+          },
+          (
+            record {
+              ptr =
+                  (b-results, o-results);
+              name = δ-results;
+              now = results;
+            },
+            tt,
+          ),
+        ),
+      ),
+    ),
+  )
 
   abbrev at : Vals own.signature (κ-log, (κ-newest, (κ-versions, (κ-results, tt))))
-  at = (Value.mach S.the-type S′.the-laws state ∷ [], (sliceVal (b-log, o-log) m-log ∷ [], (sliceVal
-      (b-newest, o-newest) m-newest ∷ [], (sliceVal (b-versions, o-versions) m-versions ∷ [], (sliceVal
-      (b-results, o-results) m-results ∷ [], tt)))))
+  at = (
+    Value.mach S.the-type S′.the-laws state ∷ [],
+    (
+      sliceVal (b-log, o-log) m-log ∷ [],
+      (
+        sliceVal
+            (b-newest, o-newest) m-newest ∷ [],
+        (
+          sliceVal (b-versions, o-versions) m-versions ∷ [],
+          (
+            sliceVal
+                (b-results, o-results) m-results ∷ [],
+            tt,
+          ),
+        ),
+      ),
+    ),
+  )
 
   abbrev Post : Val → SProp 𝓤
-  Post = walkOf 𝓤 H A own.ended stayed (own.clauses 𝓤 H A mem run) .post (((κ-log, (κ-newest, (κ-versions,
-      (κ-results, tt)))), (q-log, (q-newest, (q-versions, (q-results, tt)))), bounds, a, at), tt)
+  Post = walkOf 𝓤 H A own.ended stayed (own.clauses 𝓤 H A mem run) .post (
+    (
+      (
+        κ-log,
+        (
+          κ-newest,
+          (
+            κ-versions,
+            (κ-results, tt),
+          ),
+        ),
+      ),
+      (q-log, (q-newest, (q-versions, (q-results, tt)))),
+      bounds,
+      a,
+      at,
+    ),
+    tt,
+  )
 
   exits : (h : Stepped) (z-newest : List ℕ) (z-versions : List Version) (z-results : List ℕ)
       → h ≡ openOf state log newest versions results .stepped
@@ -213,19 +284,43 @@ module _ {M : Type 1} (𝓤 : URA M) (H : Heap 𝓤) (A : Atoms 𝓤) (W : Given
       (flft κ-results q-results) ∷ [])) (Post (Value.mach Z.the-type Z′.the-laws h))
   exits h z-newest z-versions z-results e-0 e-1 e-2 e-3 n-newest n-versions n-results g-h =
       qed W (‵ (sees u8 b-log o-log m-log κ-log δ-log log) ∷ ‵ (flft κ-log q-log) ∷ ‵
-          (holds u16 b-newest o-newest m-newest κ-newest δ-newest z-newest) ∷ ‵ (flft κ-newest q-newest) ∷ ‵
-          (holds T.the-row b-versions o-versions m-versions κ-versions δ-versions z-versions) ∷ ‵
-          (flft κ-versions q-versions) ∷ ‵ (holds u64 b-results o-results m-results κ-results δ-results z-results)
-          ∷ ‵ (flft κ-results q-results) ∷ []) ∵
-          suffices ! _ (ends-at 𝓤 H A own.ended stayed (own.clauses 𝓤 H A mem run) W
-          (((κ-log, (κ-newest, (κ-versions, (κ-results, tt)))), (q-log, (q-newest, (q-versions,
-          (q-results, tt)))), bounds, a, at), tt) (Value.mach Z.the-type Z′.the-laws h) h (tt, (tt, (z-newest,
-          (z-versions, (z-results, tt))))) (tt, (tt, (n-newest, (n-versions, (n-results, tt)))))) $
-          says ! (e-0, (e-1, (e-2, e-3))) $ nothing ! $ move ! (8 ∷ 0 ∷ []) $ join ! $ move ! (6 ∷ 0 ∷ []) $ join ! $
-          move ! (4 ∷ 0 ∷ []) $ join ! $ move ! (2 ∷ 0 ∷ []) $ join ! $ frame ! $ nothing ! $ move ! (4 ∷ 0 ∷ []) $
-          fjoin ! $ move ! (3 ∷ 0 ∷ []) $ fjoin ! $ move ! (2 ∷ 0 ∷ []) $ fjoin ! $ move ! (1 ∷ 0 ∷ []) $ fjoin ! $
-          owned ! S.the-row (Is S.the-row) (LL.makes S.the-type S′.the-plain 𝓤 H A) state _ g-state $ fjoin ! $
-          frame ! $ owned ! Z.the-row (Is Z.the-row) (LL.makes Z.the-type Z′.the-plain 𝓤 H A) h _ g-h $ done !
+      (holds u16 b-newest o-newest m-newest κ-newest δ-newest z-newest) ∷ ‵ (flft κ-newest q-newest) ∷ ‵
+      (holds T.the-row b-versions o-versions m-versions κ-versions δ-versions z-versions) ∷ ‵
+      (flft κ-versions q-versions) ∷ ‵ (holds u64 b-results o-results m-results κ-results δ-results z-results)
+      ∷ ‵ (flft κ-results q-results) ∷ []) ∵
+      suffices ! _ (ends-at 𝓤 H A own.ended stayed (own.clauses 𝓤 H A mem run) W (
+        (
+          (κ-log, (κ-newest, (κ-versions, (κ-results, tt)))),
+          (
+            q-log,
+            (
+              q-newest,
+              (
+                q-versions,
+                (q-results, tt),
+              ),
+            ),
+          ),
+          bounds,
+          a,
+          at,
+        ),
+        tt,
+      ) (Value.mach Z.the-type Z′.the-laws h) h (
+        tt,
+        (
+          tt,
+          (
+            z-newest,
+            (z-versions, (z-results, tt)),
+          ),
+        ),
+      ) (tt, (tt, (n-newest, (n-versions, (n-results, tt)))))) $
+      says ! (e-0, (e-1, (e-2, e-3))) $ nothing ! $ move ! (8 ∷ 0 ∷ []) $ join ! $ move ! (6 ∷ 0 ∷ []) $ join ! $
+      move ! (4 ∷ 0 ∷ []) $ join ! $ move ! (2 ∷ 0 ∷ []) $ join ! $ frame ! $ nothing ! $ move ! (4 ∷ 0 ∷ []) $
+      fjoin ! $ move ! (3 ∷ 0 ∷ []) $ fjoin ! $ move ! (2 ∷ 0 ∷ []) $ fjoin ! $ move ! (1 ∷ 0 ∷ []) $ fjoin ! $
+      owned ! S.the-row (Is S.the-row) (LL.makes S.the-type S′.the-plain 𝓤 H A) state _ g-state $ fjoin ! $
+      frame ! $ owned ! Z.the-row (Is Z.the-row) (LL.makes Z.the-type Z′.the-plain 𝓤 H A) h _ g-h $ done !
 
   module _ (𝓣 : Tables 𝓤 H) (k-opening : Triple 𝓤 (𝓣 .C #opening) (OpeningCall 𝓤 H A mem run)) (k-opens : Triple 𝓤
       (𝓣 .C #opens) (Opens 𝓤 H A mem run)) (k-empty-newest : Triple 𝓤 (𝓣 .C #empty-newest)
@@ -241,17 +336,22 @@ module _ {M : Type 1} (𝓤 : URA M) (H : Heap 𝓤) (A : Atoms 𝓤) (W : Given
     fm : FmC 𝓤 H (W .laws) C
     fm = fmOf 𝓤 H (W .laws) 𝓣
 
-    walk : ent 𝓤 (onEntry 𝓤 H A own.signature (κ-log, (κ-newest, (κ-versions, (κ-results, tt)))) (q-log, (q-newest,
-        (q-versions, (q-results, tt)))) a at) (WpFn 𝓤 H C Λ code.function
+    walk : ent 𝓤 (onEntry 𝓤 H A own.signature (κ-log, (κ-newest, (κ-versions, (κ-results, tt)))) (
+      q-log,
+      (
+        q-newest,
+        (q-versions, (q-results, tt)),
+      ),
+    ) a at) (WpFn 𝓤 H C Λ code.function
         (Value.mach S.the-type S′.the-laws state ∷ sliceVal (b-log, o-log) m-log ∷ sliceVal (b-newest, o-newest)
         m-newest ∷ sliceVal (b-versions, o-versions) m-versions ∷ sliceVal (b-results, o-results) m-results ∷ []) Post)
     walk =
         qed W ((‵ (flft κ-log q-log) ⊛ ‵ (flft κ-newest q-newest) ⊛ ‵ (flft κ-versions q-versions) ⊛ ‵
-            (flft κ-results q-results) ⊛ ‵ ftrue) ∷ ‵ (owns (S.the-row ∷ ShrSlice (named 0) κ-log u8 ∷ MutSlice
-            (named 1) κ-newest u16 ∷ MutSlice (named 2) κ-versions T.the-row ∷ MutSlice (named 3) κ-results u64 ∷ [])
-            a at) ∷ []) ∵ enter ! C Λ code.function (Value.mach S.the-type S′.the-laws state ∷ sliceVal
-            (b-log, o-log) m-log ∷ sliceVal (b-newest, o-newest) m-newest ∷ sliceVal (b-versions, o-versions)
-            m-versions ∷ sliceVal (b-results, o-results) m-results ∷ []) _ $
+        (flft κ-results q-results) ⊛ ‵ ftrue) ∷ ‵ (owns (S.the-row ∷ ShrSlice (named 0) κ-log u8 ∷ MutSlice
+        (named 1) κ-newest u16 ∷ MutSlice (named 2) κ-versions T.the-row ∷ MutSlice (named 3) κ-results u64 ∷ [])
+        a at) ∷ []) ∵ enter ! C Λ code.function (Value.mach S.the-type S′.the-laws state ∷ sliceVal
+        (b-log, o-log) m-log ∷ sliceVal (b-newest, o-newest) m-newest ∷ sliceVal (b-versions, o-versions)
+        m-versions ∷ sliceVal (b-results, o-results) m-results ∷ []) _ $
         alloc1 ! (λ l-0.
         alloc1 ! (λ l-1.
         alloc1 ! (λ l-2.
@@ -274,7 +374,7 @@ module _ {M : Type 1} (𝓤 : URA M) (H : Heap 𝓤) (A : Atoms 𝓤) (W : Given
         alloc0 ! $
         params1 ! $
         pass1 ! (init ! 34 refl (Value.typed S.the-type S′.the-laws 𝓤 H A W state
-            (Value.mach S.the-type S′.the-laws state) (refl, g-state))) $
+        (Value.mach S.the-type S′.the-laws state) (refl, g-state))) $
         pass1 ! (init ! 32 refl (tt, (tt, (record { fits = room-log .0 }, tt)))) $
         pass1 ! (init ! 30 refl (tt, (tt, (record { fits = room-newest .0 }, tt)))) $
         pass1 ! (init ! 28 refl (tt, (tt, (record { fits = room-versions .0 }, tt)))) $
@@ -303,171 +403,175 @@ module _ {M : Type 1} (𝓤 : URA M) (H : Heap 𝓤) (A : Atoms 𝓤) (W : Given
         move ! (1 ∷ []) $
         drop ! $
         assigns ! (of-opd ! (load ! (from ! (fld ! refl (stop !))) (look-in ! 38 (sub ! 1 refl (whole !))))) (from !
-            (stop !)) (init ! 26 refl (tt, record { fits = room-newest .0 })) $
+        (stop !)) (init ! 26 refl (tt, record { fits = room-newest .0 })) $
         assigns ! (of-opd ! (load ! (from ! (fld ! refl (stop !))) (look-in ! 36 (sub ! 1 refl (whole !))))) (from !
-            (stop !)) (init ! 24 refl (tt, record { fits = room-versions .0 })) $
+        (stop !)) (init ! 24 refl (tt, record { fits = room-versions .0 })) $
         assigns ! (of-opd ! (load ! (from ! (fld ! refl (stop !))) (look-in ! 34 (sub ! 1 refl (whole !))))) (from !
-            (stop !)) (init ! 22 refl (tt, record { fits = room-results .0 })) $
+        (stop !)) (init ! 22 refl (tt, record { fits = room-results .0 })) $
         move ! (7 ∷ []) $
         use1 W (‵ (sees u8 b-log o-log m-log κ-log δ-log log) ⊛ ‵ (sees u8 b-log o-log m-log κ-log δ-log log))
-            (shr-slice-copy 𝓤 H A W (named 0) κ-log u8 .twice (record { ptr =
-            (b-log, o-log); name = δ-log; now = log }) (sliceVal (b-log, o-log) m-log ∷ [])) $
+        (shr-slice-copy 𝓤 H A W (named 0) κ-log u8 .twice (record {
+          ptr =
+              (b-log, o-log);
+          name = δ-log;
+          now = log;
+        }) (sliceVal (b-log, o-log) m-log ∷ [])) $
         split ! $
         move ! (5 ∷ 0 ∷ []) $
         use2 W (raw (OpeningCall 𝓤 H A mem run .pre (to-opening 𝓤 H A W mem run state log m-newest m-versions
-            m-results b-log o-log m-log κ-log q-log δ-log))) (opening-goes 𝓤 H A W mem run state log m-newest
-            m-versions m-results b-log o-log m-log κ-log q-log δ-log g-state (room-newest .0) (room-versions .0)
-            (room-results .0)) $
+        m-results b-log o-log m-log κ-log q-log δ-log))) (opening-goes 𝓤 H A W mem run state log m-newest
+        m-versions m-results b-log o-log m-log κ-log q-log δ-log g-state (room-newest .0) (room-versions .0)
+        (room-results .0)) $
         calls-at ! fm (OpeningCall 𝓤 H A mem run) k-opening (to-opening 𝓤 H A W mem run state log m-newest m-versions
-            m-results b-log o-log m-log κ-log q-log δ-log) (and-then ! (load ! (from ! (stop !)) (look ! 42 refl))
-            (and-then ! (load ! (from ! (stop !)) (look ! 40 refl)) (and-then ! (load ! (from ! (stop !))
-            (look ! 26 refl)) (and-then ! (load ! (from ! (stop !)) (look ! 24 refl)) (and-then ! (load ! (from !
-            (stop !)) (look ! 22 refl)) (no-more !)))))) (λ u1.
+        m-results b-log o-log m-log κ-log q-log δ-log) (and-then ! (load ! (from ! (stop !)) (look ! 42 refl))
+        (and-then ! (load ! (from ! (stop !)) (look ! 40 refl)) (and-then ! (load ! (from ! (stop !))
+        (look ! 26 refl)) (and-then ! (load ! (from ! (stop !)) (look ! 24 refl)) (and-then ! (load ! (from !
+        (stop !)) (look ! 22 refl)) (no-more !)))))) (λ u1.
         use1 W (later (some (λ (x : Unit {0}). given
-            (opening-said 𝓤 H A W mem run state log m-newest m-versions m-results b-log o-log m-log κ-log q-log δ-log
-            u1 x) (‵ (flft κ-log q-log))))) (opening-gives 𝓤 H A W mem run state log m-newest m-versions m-results
-            b-log o-log m-log κ-log q-log δ-log u1) $ await ! tt $ pick ! (λ x1. learn ! (λ s1.
+        (opening-said 𝓤 H A W mem run state log m-newest m-versions m-results b-log o-log m-log κ-log q-log δ-log
+        u1 x) (‵ (flft κ-log q-log))))) (opening-gives 𝓤 H A W mem run state log m-newest m-versions m-results
+        b-log o-log m-log κ-log q-log δ-log u1) $ await ! tt $ pick ! (λ x1. learn ! (λ s1.
         land ! (from ! (stop !)) (init ! 32 refl (Value.typed O.the-type O′.the-laws 𝓤 H A W
-            (openingOf state log m-newest m-versions m-results) u1 (s1))) $
+        (openingOf state log m-newest m-versions m-results) u1 (s1))) $
         rewrite ! 32 (λ (z : Val). ‵ (fat fullShare (τ 6) l-6 0 z)) (s1 .0) refl $
         use0 W (raw (Opens 𝓤 H A mem run .pre (to-opens 𝓤 H A W mem run
-            (openingOf state log m-newest m-versions m-results)))) (opens-goes 𝓤 H A W mem run
-            (openingOf state log m-newest m-versions m-results) (s1 .1)) $
+        (openingOf state log m-newest m-versions m-results)))) (opens-goes 𝓤 H A W mem run
+        (openingOf state log m-newest m-versions m-results) (s1 .1)) $
         calls-at ! fm (Opens 𝓤 H A mem run) k-opens (to-opens 𝓤 H A W mem run
-            (openingOf state log m-newest m-versions m-results)) (and-then ! (load ! (from ! (stop !))
-            (look ! 33 refl)) (no-more !)) (λ u2.
+        (openingOf state log m-newest m-versions m-results)) (and-then ! (load ! (from ! (stop !))
+        (look ! 33 refl)) (no-more !)) (λ u2.
         use1 W (later (some (λ (x : Unit {0}). given (opens-said 𝓤 H A W mem run
-            (openingOf state log m-newest m-versions m-results) u2 x) (raw (emp 𝓤))))) (opens-gives 𝓤 H A W mem run
-            (openingOf state log m-newest m-versions m-results) u2) $ await ! tt $ pick ! (λ x2. learn ! (λ s2.
+        (openingOf state log m-newest m-versions m-results) u2 x) (raw (emp 𝓤))))) (opens-gives 𝓤 H A W mem run
+        (openingOf state log m-newest m-versions m-results) u2) $ await ! tt $ pick ! (λ x2. learn ! (λ s2.
         drop ! $
         land ! (from ! (stop !)) (init ! 30 refl (bool-typed u2 (isAccepted
-            ((openingOf state log m-newest m-versions m-results) .verdict)) (s2))) $
+        ((openingOf state log m-newest m-versions m-results) .verdict)) (s2))) $
         rewrite ! 30 (λ (z : Val). ‵ (fat fullShare (τ 7) l-7 0 z)) (s2) refl $
         assigns ! (addr ! (from ! (fld ! refl (hop ! (look-in ! 38 (sub ! 0 refl (whole !))) (stop !))))) (from !
-            (stop !)) (init ! 18 refl (tt, tt)) $
+        (stop !)) (init ! 18 refl (tt, tt)) $
         assigns ! (agg ! (and-then ! (load ! (from ! (stop !)) (look ! 18 refl)) (and-then ! (load ! (from !
-            (fld ! refl (stop !))) (look-in ! 38 (sub ! 1 refl (whole !)))) (no-more !)))) (from ! (stop !))
-            (init ! 16 refl (tt, (tt, (record { fits = room-newest .0 }, tt)))) $
+        (fld ! refl (stop !))) (look-in ! 38 (sub ! 1 refl (whole !)))) (no-more !)))) (from ! (stop !))
+        (init ! 16 refl (tt, (tt, (record { fits = room-newest .0 }, tt)))) $
         move ! (7 ∷ 4 ∷ []) $
         lend-mut 𝓤 H A W u16 b-newest o-newest m-newest newest (refl) room-newest ! tt κ-newest q-newest δ-newest
-            (λ ν-newest3 δ-newest3.
+        (λ ν-newest3 δ-newest3.
         use2 W (raw (EmptyNewest 𝓤 H A mem run .pre (to-empty-newest 𝓤 H A W mem run newest (isAccepted
-            ((openingOf state log m-newest m-versions m-results) .verdict)) b-newest o-newest m-newest
-            (ν-newest3 ∷ []) fullShare δ-newest3))) (empty-newest-goes 𝓤 H A W mem run newest (isAccepted
-            ((openingOf state log m-newest m-versions m-results) .verdict)) b-newest o-newest m-newest
-            (ν-newest3 ∷ []) fullShare δ-newest3) $
+        ((openingOf state log m-newest m-versions m-results) .verdict)) b-newest o-newest m-newest
+        (ν-newest3 ∷ []) fullShare δ-newest3))) (empty-newest-goes 𝓤 H A W mem run newest (isAccepted
+        ((openingOf state log m-newest m-versions m-results) .verdict)) b-newest o-newest m-newest
+        (ν-newest3 ∷ []) fullShare δ-newest3) $
         calls-at ! fm (EmptyNewest 𝓤 H A mem run) k-empty-newest (to-empty-newest 𝓤 H A W mem run newest (isAccepted
-            ((openingOf state log m-newest m-versions m-results) .verdict)) b-newest o-newest m-newest
-            (ν-newest3 ∷ []) fullShare δ-newest3) (and-then ! (load ! (from ! (stop !)) (look ! 16 refl)) (and-then !
-            (load ! (from ! (stop !)) (look ! 30 refl)) (no-more !))) (λ u3.
+        ((openingOf state log m-newest m-versions m-results) .verdict)) b-newest o-newest m-newest
+        (ν-newest3 ∷ []) fullShare δ-newest3) (and-then ! (load ! (from ! (stop !)) (look ! 16 refl)) (and-then !
+        (load ! (from ! (stop !)) (look ! 30 refl)) (no-more !))) (λ u3.
         use1 W (later (some (λ (x : List ℕ). given (empty-newest-said 𝓤 H A W mem run newest (isAccepted
-            ((openingOf state log m-newest m-versions m-results) .verdict)) b-newest o-newest m-newest
-            (ν-newest3 ∷ []) fullShare δ-newest3 u3 x) (‵ (flft (ν-newest3 ∷ []) fullShare) ⊛ ‵
-            (finally u16 δ-newest3 (x)))))) (empty-newest-gives 𝓤 H A W mem run newest (isAccepted
-            ((openingOf state log m-newest m-versions m-results) .verdict)) b-newest o-newest m-newest
-            (ν-newest3 ∷ []) fullShare δ-newest3 u3) $ await ! tt $ pick ! (λ x3. learn ! (λ s3.
+        ((openingOf state log m-newest m-versions m-results) .verdict)) b-newest o-newest m-newest
+        (ν-newest3 ∷ []) fullShare δ-newest3 u3 x) (‵ (flft (ν-newest3 ∷ []) fullShare) ⊛ ‵
+        (finally u16 δ-newest3 (x)))))) (empty-newest-gives 𝓤 H A W mem run newest (isAccepted
+        ((openingOf state log m-newest m-versions m-results) .verdict)) b-newest o-newest m-newest
+        (ν-newest3 ∷ []) fullShare δ-newest3 u3) $ await ! tt $ pick ! (λ x3. learn ! (λ s3.
         split ! $
         move ! (1 ∷ []) $
         move ! (1 ∷ 0 ∷ 2 ∷ []) $
         back-mut 𝓤 H A W u16 b-newest o-newest m-newest newest (refl) room-newest ! tt κ-newest q-newest δ-newest
-            ν-newest3 δ-newest3 (x3) (s3 .1 .1) (
+        ν-newest3 δ-newest3 (x3) (s3 .1 .1) (
         rewrite ! 0 (λ (l : List ℕ). ‵ (holds u16 b-newest o-newest m-newest κ-newest δ-newest l)) (s3 .1 .0) refl $
         land ! (from ! (stop !)) (init ! 20 refl (unit-typed u3 (s3 .0))) $
         assigns ! (of-opd ! (load ! (from ! (fld ! refl (stop !))) (look-in ! 36 (sub ! 1 refl (whole !))))) (from !
-            (stop !)) (store ! 26 refl (tt, record { fits = room-versions .0 })) $
+        (stop !)) (store ! 26 refl (tt, record { fits = room-versions .0 })) $
         use0 W (raw (CountIf 𝓤 H A mem run .pre (to-count-if 𝓤 H A W mem run (isAccepted
-            ((openingOf state log m-newest m-versions m-results) .verdict)) m-versions)))
-            (count-if-goes 𝓤 H A W mem run (isAccepted ((openingOf state log m-newest m-versions m-results)
-            .verdict)) m-versions (room-versions .0)) $
+        ((openingOf state log m-newest m-versions m-results) .verdict)) m-versions)))
+        (count-if-goes 𝓤 H A W mem run (isAccepted ((openingOf state log m-newest m-versions m-results)
+        .verdict)) m-versions (room-versions .0)) $
         calls-at ! fm (CountIf 𝓤 H A mem run) k-count-if (to-count-if 𝓤 H A W mem run (isAccepted
-            ((openingOf state log m-newest m-versions m-results) .verdict)) m-versions) (and-then ! (load ! (from !
-            (stop !)) (look ! 31 refl)) (and-then ! (load ! (from ! (stop !)) (look ! 27 refl)) (no-more !))) (λ u4.
+        ((openingOf state log m-newest m-versions m-results) .verdict)) m-versions) (and-then ! (load ! (from !
+        (stop !)) (look ! 31 refl)) (and-then ! (load ! (from ! (stop !)) (look ! 27 refl)) (no-more !))) (λ u4.
         use1 W (later (some (λ (x : Unit {0}). given (count-if-said 𝓤 H A W mem run (isAccepted
-            ((openingOf state log m-newest m-versions m-results) .verdict)) m-versions u4 x) (raw (emp 𝓤)))))
-            (count-if-gives 𝓤 H A W mem run (isAccepted ((openingOf state log m-newest m-versions m-results)
-            .verdict)) m-versions u4) $ await ! tt $ pick ! (λ x4. learn ! (λ s4.
+        ((openingOf state log m-newest m-versions m-results) .verdict)) m-versions u4 x) (raw (emp 𝓤)))))
+        (count-if-gives 𝓤 H A W mem run (isAccepted ((openingOf state log m-newest m-versions m-results)
+        .verdict)) m-versions u4) $ await ! tt $ pick ! (λ x4. learn ! (λ s4.
         drop ! $
         land ! (from ! (stop !)) (init ! 28 refl (num-typed w64 u4 (cond (isAccepted
-            ((openingOf state log m-newest m-versions m-results) .verdict)) m-versions 0) (s4))) $
+        ((openingOf state log m-newest m-versions m-results) .verdict)) m-versions 0) (s4))) $
         rewrite ! 28 (λ (z : Val). ‵ (fat fullShare (τ 8) l-8 0 z)) (s4 .0) refl $
         assigns ! (addr ! (from ! (fld ! refl (hop ! (look-in ! 36 (sub ! 0 refl (whole !))) (stop !))))) (from !
-            (stop !)) (init ! 14 refl (tt, tt)) $
+        (stop !)) (init ! 14 refl (tt, tt)) $
         assigns ! (agg ! (and-then ! (load ! (from ! (stop !)) (look ! 14 refl)) (and-then ! (load ! (from !
-            (fld ! refl (stop !))) (look-in ! 36 (sub ! 1 refl (whole !)))) (no-more !)))) (from ! (stop !))
-            (init ! 12 refl (tt, (tt, (record { fits = room-versions .0 }, tt)))) $
+        (fld ! refl (stop !))) (look-in ! 36 (sub ! 1 refl (whole !)))) (no-more !)))) (from ! (stop !))
+        (init ! 12 refl (tt, (tt, (record { fits = room-versions .0 }, tt)))) $
         move ! (7 ∷ 5 ∷ []) $
         lend-mut 𝓤 H A W T.the-row b-versions o-versions m-versions versions (refl)
-            room-versions ! tt κ-versions q-versions δ-versions (λ ν-versions5 δ-versions5.
+        room-versions ! tt κ-versions q-versions δ-versions (λ ν-versions5 δ-versions5.
         use2 W (raw (ClearCall 𝓤 H A mem run .pre (to-clear 𝓤 H A W mem run versions (cond (isAccepted
-            ((openingOf state log m-newest m-versions m-results) .verdict)) m-versions 0)
-            b-versions o-versions m-versions (ν-versions5 ∷ []) fullShare δ-versions5)))
-            (clear-goes 𝓤 H A W mem run versions (cond (isAccepted
-            ((openingOf state log m-newest m-versions m-results) .verdict)) m-versions 0)
-            b-versions o-versions m-versions (ν-versions5 ∷ []) fullShare δ-versions5 (s4 .1)) $
+        ((openingOf state log m-newest m-versions m-results) .verdict)) m-versions 0)
+        b-versions o-versions m-versions (ν-versions5 ∷ []) fullShare δ-versions5)))
+        (clear-goes 𝓤 H A W mem run versions (cond (isAccepted
+        ((openingOf state log m-newest m-versions m-results) .verdict)) m-versions 0)
+        b-versions o-versions m-versions (ν-versions5 ∷ []) fullShare δ-versions5 (s4 .1)) $
         calls-at ! fm (ClearCall 𝓤 H A mem run) k-clear (to-clear 𝓤 H A W mem run versions (cond (isAccepted
-            ((openingOf state log m-newest m-versions m-results) .verdict)) m-versions 0)
-            b-versions o-versions m-versions (ν-versions5 ∷ []) fullShare δ-versions5) (and-then ! (load ! (from !
-            (stop !)) (look ! 12 refl)) (and-then ! (load ! (from ! (stop !)) (look ! 28 refl)) (no-more !))) (λ u5.
+        ((openingOf state log m-newest m-versions m-results) .verdict)) m-versions 0)
+        b-versions o-versions m-versions (ν-versions5 ∷ []) fullShare δ-versions5) (and-then ! (load ! (from !
+        (stop !)) (look ! 12 refl)) (and-then ! (load ! (from ! (stop !)) (look ! 28 refl)) (no-more !))) (λ u5.
         use1 W (later (some (λ (x : List Version). given (clear-said 𝓤 H A W mem run versions (cond (isAccepted
-            ((openingOf state log m-newest m-versions m-results) .verdict)) m-versions 0)
-            b-versions o-versions m-versions (ν-versions5 ∷ []) fullShare δ-versions5 u5 x)
-            (‵ (flft (ν-versions5 ∷ []) fullShare) ⊛ ‵ (finally T.the-row δ-versions5 (x))))))
-            (clear-gives 𝓤 H A W mem run versions (cond (isAccepted
-            ((openingOf state log m-newest m-versions m-results) .verdict)) m-versions 0)
-            b-versions o-versions m-versions (ν-versions5 ∷ []) fullShare δ-versions5 u5) $ await ! tt $
-            pick ! (λ x5. learn ! (λ s5.
+        ((openingOf state log m-newest m-versions m-results) .verdict)) m-versions 0)
+        b-versions o-versions m-versions (ν-versions5 ∷ []) fullShare δ-versions5 u5 x)
+        (‵ (flft (ν-versions5 ∷ []) fullShare) ⊛ ‵ (finally T.the-row δ-versions5 (x))))))
+        (clear-gives 𝓤 H A W mem run versions (cond (isAccepted
+        ((openingOf state log m-newest m-versions m-results) .verdict)) m-versions 0)
+        b-versions o-versions m-versions (ν-versions5 ∷ []) fullShare δ-versions5 u5) $ await ! tt $
+        pick ! (λ x5. learn ! (λ s5.
         split ! $
         move ! (1 ∷ []) $
         move ! (1 ∷ 0 ∷ 2 ∷ []) $
         back-mut 𝓤 H A W T.the-row b-versions o-versions m-versions versions (refl)
-            room-versions ! tt κ-versions q-versions δ-versions ν-versions5 δ-versions5 (x5) (s5 .1 .1) (
+        room-versions ! tt κ-versions q-versions δ-versions ν-versions5 δ-versions5 (x5) (s5 .1 .1) (
         rewrite ! 0 (λ (l : List Version). ‵
-            (holds T.the-row b-versions o-versions m-versions κ-versions δ-versions l)) (s5 .1 .0) refl $
+        (holds T.the-row b-versions o-versions m-versions κ-versions δ-versions l)) (s5 .1 .0) refl $
         land ! (from ! (stop !)) (store ! 20 refl (unit-typed u5 (s5 .0))) $
         assigns ! (addr ! (from ! (fld ! refl (hop ! (look-in ! 34 (sub ! 0 refl (whole !))) (stop !))))) (from !
-            (stop !)) (init ! 10 refl (tt, tt)) $
+        (stop !)) (init ! 10 refl (tt, tt)) $
         assigns ! (agg ! (and-then ! (load ! (from ! (stop !)) (look ! 10 refl)) (and-then ! (load ! (from !
-            (fld ! refl (stop !))) (look-in ! 34 (sub ! 1 refl (whole !)))) (no-more !)))) (from ! (stop !))
-            (init ! 8 refl (tt, (tt, (record { fits = room-results .0 }, tt)))) $
+        (fld ! refl (stop !))) (look-in ! 34 (sub ! 1 refl (whole !)))) (no-more !)))) (from ! (stop !))
+        (init ! 8 refl (tt, (tt, (record { fits = room-results .0 }, tt)))) $
         move ! (7 ∷ 6 ∷ []) $
         lend-mut 𝓤 H A W u64 b-results o-results m-results results (refl)
-            room-results ! tt κ-results q-results δ-results (λ ν-results6 δ-results6.
+        room-results ! tt κ-results q-results δ-results (λ ν-results6 δ-results6.
         use2 W (raw (EmptyResults 𝓤 H A mem run .pre (to-empty-results 𝓤 H A W mem run results (isAccepted
-            ((openingOf state log m-newest m-versions m-results) .verdict)) b-results o-results m-results
-            (ν-results6 ∷ []) fullShare δ-results6))) (empty-results-goes 𝓤 H A W mem run results (isAccepted
-            ((openingOf state log m-newest m-versions m-results) .verdict)) b-results o-results m-results
-            (ν-results6 ∷ []) fullShare δ-results6) $
+        ((openingOf state log m-newest m-versions m-results) .verdict)) b-results o-results m-results
+        (ν-results6 ∷ []) fullShare δ-results6))) (empty-results-goes 𝓤 H A W mem run results (isAccepted
+        ((openingOf state log m-newest m-versions m-results) .verdict)) b-results o-results m-results
+        (ν-results6 ∷ []) fullShare δ-results6) $
         calls-at ! fm (EmptyResults 𝓤 H A mem run) k-empty-results (to-empty-results 𝓤 H A W mem run results
-            (isAccepted ((openingOf state log m-newest m-versions m-results) .verdict)) b-results o-results m-results
-            (ν-results6 ∷ []) fullShare δ-results6) (and-then ! (load ! (from ! (stop !)) (look ! 8 refl))
-            (and-then ! (load ! (from ! (stop !)) (look ! 30 refl)) (no-more !))) (λ u6.
+        (isAccepted ((openingOf state log m-newest m-versions m-results) .verdict)) b-results o-results m-results
+        (ν-results6 ∷ []) fullShare δ-results6) (and-then ! (load ! (from ! (stop !)) (look ! 8 refl))
+        (and-then ! (load ! (from ! (stop !)) (look ! 30 refl)) (no-more !))) (λ u6.
         use1 W (later (some (λ (x : List ℕ). given (empty-results-said 𝓤 H A W mem run results (isAccepted
-            ((openingOf state log m-newest m-versions m-results) .verdict)) b-results o-results m-results
-            (ν-results6 ∷ []) fullShare δ-results6 u6 x) (‵ (flft (ν-results6 ∷ []) fullShare) ⊛ ‵
-            (finally u64 δ-results6 (x)))))) (empty-results-gives 𝓤 H A W mem run results (isAccepted
-            ((openingOf state log m-newest m-versions m-results) .verdict)) b-results o-results m-results
-            (ν-results6 ∷ []) fullShare δ-results6 u6) $ await ! tt $ pick ! (λ x6. learn ! (λ s6.
+        ((openingOf state log m-newest m-versions m-results) .verdict)) b-results o-results m-results
+        (ν-results6 ∷ []) fullShare δ-results6 u6 x) (‵ (flft (ν-results6 ∷ []) fullShare) ⊛ ‵
+        (finally u64 δ-results6 (x)))))) (empty-results-gives 𝓤 H A W mem run results (isAccepted
+        ((openingOf state log m-newest m-versions m-results) .verdict)) b-results o-results m-results
+        (ν-results6 ∷ []) fullShare δ-results6 u6) $ await ! tt $ pick ! (λ x6. learn ! (λ s6.
         split ! $
         move ! (1 ∷ []) $
         move ! (1 ∷ 0 ∷ 2 ∷ []) $
         back-mut 𝓤 H A W u64 b-results o-results m-results results (refl)
-            room-results ! tt κ-results q-results δ-results ν-results6 δ-results6 (x6) (s6 .1 .1) (
+        room-results ! tt κ-results q-results δ-results ν-results6 δ-results6 (x6) (s6 .1 .1) (
         rewrite ! 0 (λ (l : List ℕ). ‵ (holds u64 b-results o-results m-results κ-results δ-results l)) (s6 .1 .0)
-            refl $
+        refl $
         land ! (from ! (stop !)) (store ! 20 refl (unit-typed u6 (s6 .0))) $
         use0 W (raw (OpenedCall 𝓤 H A mem run .pre (to-opened 𝓤 H A W mem run state
-            (openingOf state log m-newest m-versions m-results)))) (opened-goes 𝓤 H A W mem run state
-            (openingOf state log m-newest m-versions m-results) g-state (s1 .1)) $
+        (openingOf state log m-newest m-versions m-results)))) (opened-goes 𝓤 H A W mem run state
+        (openingOf state log m-newest m-versions m-results) g-state (s1 .1)) $
         calls-at ! fm (OpenedCall 𝓤 H A mem run) k-opened (to-opened 𝓤 H A W mem run state
-            (openingOf state log m-newest m-versions m-results)) (and-then ! (load ! (from ! (stop !))
-            (look ! 43 refl)) (and-then ! (load ! (from ! (stop !)) (look ! 33 refl)) (no-more !))) (λ u7.
+        (openingOf state log m-newest m-versions m-results)) (and-then ! (load ! (from ! (stop !))
+        (look ! 43 refl)) (and-then ! (load ! (from ! (stop !)) (look ! 33 refl)) (no-more !))) (λ u7.
         use1 W (later (some (λ (x : Unit {0}). given (opened-said 𝓤 H A W mem run state
-            (openingOf state log m-newest m-versions m-results) u7 x) (raw (emp 𝓤)))))
-            (opened-gives 𝓤 H A W mem run state (openingOf state log m-newest m-versions m-results) u7) $
-            await ! tt $ pick ! (λ x7. learn ! (λ s7.
+        (openingOf state log m-newest m-versions m-results) u7 x) (raw (emp 𝓤)))))
+        (opened-gives 𝓤 H A W mem run state (openingOf state log m-newest m-versions m-results) u7) $
+        await ! tt $ pick ! (λ x7. learn ! (λ s7.
         drop ! $
         land ! (from ! (stop !)) (init ! 44 refl (Value.typed Z.the-type Z′.the-laws 𝓤 H A W (openedAs state
-            (openingOf state log m-newest m-versions m-results)) u7 (s7))) $
+        (openingOf state log m-newest m-versions m-results)) u7 (s7))) $
         rewrite ! 44 (λ (z : Val). ‵ (fat fullShare (τ 0) l-0 0 z)) (s7 .0) refl $
         returns ! (look ! 44 refl) $
         forget ! 44 refl $
@@ -530,15 +634,15 @@ module _ {M : Type 1} (𝓤 : URA M) (H : Heap 𝓤) (A : Atoms 𝓤) (W : Given
         free0 ! $
         move ! (7 ∷ 6 ∷ 4 ∷ 5 ∷ 2 ∷ 3 ∷ 0 ∷ 1 ∷ []) $
         by ! (exits (openedAs state (openingOf state log m-newest m-versions m-results)) (cond (isAccepted
-            ((openingOf state log m-newest m-versions m-results) .verdict)) (noneNewest newest) newest)
-            (clearOf versions (cond (isAccepted ((openingOf state log m-newest m-versions m-results) .verdict))
-            m-versions 0)) (cond (isAccepted ((openingOf state log m-newest m-versions m-results) .verdict))
-            (allZero results) results) (open-stepped state log newest versions results)
-            (open-newest state log newest versions results) (open-versions state log newest versions results)
-            (open-results state log newest versions results) (sym (ap (λ (l : List ℕ). length l) (s3 .1 .0))
-            ∙ s3 .1 .1 ∙ refl) (sym (ap (λ (l : List Version). length l) (s5 .1 .0)) ∙ s5 .1 .1 ∙ refl)
-            (sym (ap (λ (l : List ℕ). length l) (s6 .1 .0)) ∙ s6 .1 .1 ∙ refl)
-            (s7 .1))))))))))))))))))))))))))))))))))))))))))))))))
+        ((openingOf state log m-newest m-versions m-results) .verdict)) (noneNewest newest) newest)
+        (clearOf versions (cond (isAccepted ((openingOf state log m-newest m-versions m-results) .verdict))
+        m-versions 0)) (cond (isAccepted ((openingOf state log m-newest m-versions m-results) .verdict))
+        (allZero results) results) (open-stepped state log newest versions results)
+        (open-newest state log newest versions results) (open-versions state log newest versions results)
+        (open-results state log newest versions results) (sym (ap (λ (l : List ℕ). length l) (s3 .1 .0))
+        ∙ s3 .1 .1 ∙ refl) (sym (ap (λ (l : List Version). length l) (s5 .1 .0)) ∙ s5 .1 .1 ∙ refl)
+        (sym (ap (λ (l : List ℕ). length l) (s6 .1 .0)) ∙ s6 .1 .1 ∙ refl)
+        (s7 .1))))))))))))))))))))))))))))))))))))))))))))))))
 
 module _ {M : Type 1} (𝓤 : URA M) (H : Heap 𝓤) (A : Atoms 𝓤) (W : Given 𝓤 H A) (mem : Memory
     → SProp 𝓤) (run : Routine → Fun 𝓤) where
@@ -550,17 +654,31 @@ module _ {M : Type 1} (𝓤 : URA M) (H : Heap 𝓤) (A : Atoms 𝓤) (W : Given
       code.function) (own.clauses 𝓤 H A mem run)
   own-walks 𝓣 k-opening k-opens k-empty-newest k-count-if k-clear k-empty-results k-opened =
       walked 𝓤 H A own.ended stayed (own.clauses 𝓤 H A mem run) (WpFn 𝓤 H (𝓣 .C) (𝓣 .Λ) code.function) (λ κs.
-          (LL.vals S.the-type S′.the-laws, (slice-vals, (slice-vals, (slice-vals, (slice-vals, tt)))))) (λ κs.
-          (LL.tells S.the-type S′.the-laws, (shr-slice-tells (named 0) (κs .0) u8, (mut-slice-tells (named 1)
-          (κs .1 .0) u16, (mut-slice-tells (named 2) (κs .1 .1 .0) T.the-row, (mut-slice-tells (named 3)
-          (κs .1 .1 .1 .0) u64, tt)))))) (λ κs qs bounds a g are. via 𝓤 _ (fst∗ 𝓤 _ (emp 𝓤)) (walk 𝓤 H A W mem run
-          (κs .0) (κs .1 .0) (κs .1 .1 .0) (κs .1 .1 .1 .0) bounds (qs .0) (qs .1 .0) (qs .1 .1 .0) (qs .1 .1 .1 .0)
-          (a .0) (a .1 .0 .ptr .0) (a .1 .0 .ptr .1) (a .1 .0 .name) (a .1 .0 .now) (a .1 .1 .0 .ptr .0)
-          (a .1 .1 .0 .ptr .1) (a .1 .1 .0 .name) (a .1 .1 .0 .now) (a .1 .1 .1 .0 .ptr .0) (a .1 .1 .1 .0 .ptr .1)
-          (a .1 .1 .1 .0 .name) (a .1 .1 .1 .0 .now) (a .1 .1 .1 .1 .0 .ptr .0) (a .1 .1 .1 .1 .0 .ptr .1)
-          (a .1 .1 .1 .1 .0 .name) (a .1 .1 .1 .1 .0 .now) (are .0) (are .1 .0 .0 .1) (are .1 .1 .0 .0 .1)
-          (are .1 .1 .1 .0 .0 .1) (are .1 .1 .1 .1 .0 .0 .1) 𝓣 k-opening k-opens k-empty-newest k-count-if k-clear
-          k-empty-results k-opened))
+      (LL.vals S.the-type S′.the-laws, (slice-vals, (slice-vals, (slice-vals, (slice-vals, tt)))))) (λ κs. (
+        LL.tells S.the-type S′.the-laws,
+        (
+          shr-slice-tells (named 0) (κs .0) u8,
+          (
+            mut-slice-tells (named 1)
+                (κs .1 .0) u16,
+            (
+              mut-slice-tells (named 2) (κs .1 .1 .0) T.the-row,
+              (
+                mut-slice-tells (named 3)
+                    (κs .1 .1 .1 .0) u64,
+                tt,
+              ),
+            ),
+          ),
+        ),
+      )) (λ κs qs bounds a g are. via 𝓤 _ (fst∗ 𝓤 _ (emp 𝓤)) (walk 𝓤 H A W mem run
+      (κs .0) (κs .1 .0) (κs .1 .1 .0) (κs .1 .1 .1 .0) bounds (qs .0) (qs .1 .0) (qs .1 .1 .0) (qs .1 .1 .1 .0)
+      (a .0) (a .1 .0 .ptr .0) (a .1 .0 .ptr .1) (a .1 .0 .name) (a .1 .0 .now) (a .1 .1 .0 .ptr .0)
+      (a .1 .1 .0 .ptr .1) (a .1 .1 .0 .name) (a .1 .1 .0 .now) (a .1 .1 .1 .0 .ptr .0) (a .1 .1 .1 .0 .ptr .1)
+      (a .1 .1 .1 .0 .name) (a .1 .1 .1 .0 .now) (a .1 .1 .1 .1 .0 .ptr .0) (a .1 .1 .1 .1 .0 .ptr .1)
+      (a .1 .1 .1 .1 .0 .name) (a .1 .1 .1 .1 .0 .now) (are .0) (are .1 .0 .0 .1) (are .1 .1 .0 .0 .1)
+      (are .1 .1 .1 .0 .0 .1) (are .1 .1 .1 .1 .0 .0 .1) 𝓣 k-opening k-opens k-empty-newest k-count-if k-clear
+      k-empty-results k-opened))
 
 own-meets : {M : Type 1} (𝓤 : URA M) (H : Heap 𝓤) (A : Atoms 𝓤) → Given 𝓤 H A → (mem : Memory
     → SProp 𝓤) (run : Routine → Fun 𝓤) (𝓣 : Tables 𝓤 H) → Triple 𝓤 (𝓣 .C #opening) (OpeningCall 𝓤 H A mem run)
@@ -570,12 +688,27 @@ own-meets : {M : Type 1} (𝓤 : URA M) (H : Heap 𝓤) (A : Atoms 𝓤) → Giv
     → Triple 𝓤 (𝓣 .C #opened) (OpenedCall 𝓤 H A mem run) → Meets 𝓤 H A own.signature (WpFn 𝓤 H (𝓣 .C) (𝓣 .Λ)
     code.function) (own.spec 𝓤 H A mem run)
 own-meets 𝓤 H A W mem run 𝓣 k-opening k-opens k-empty-newest k-count-if k-clear k-empty-results k-opened =
-    walk-meets 𝓤 H A own.ended stayed W (goes-none 𝓤 H A W 4 (λ _. S.the-row) yes (λ κs x f.
-        refl), (goes-none-slice 𝓤 H A W 4 (0 ∷ []) tt (plain (λ _. u8)) yes, (goes-slice 𝓤 H A W 4 1 tt (plain (λ _.
-        u16)), (goes-slice 𝓤 H A W 4 2 tt (plain (λ _. T.the-row)), (goes-slice 𝓤 H A W 4 3 tt (plain (λ _.
-        u64)), tt))))) (own.clauses 𝓤 H A mem run) (WpFn 𝓤 H (𝓣 .C) (𝓣 .Λ) code.function) (WpFn-mono 𝓤 H (W .laws)
-        𝓣 code.function) (own-walks 𝓤 H A W mem run 𝓣 k-opening k-opens k-empty-newest k-count-if k-clear
-        k-empty-results k-opened)
+    walk-meets 𝓤 H A own.ended stayed W (
+      goes-none 𝓤 H A W 4 (λ _. S.the-row) yes (λ κs x f.
+          refl),
+      (
+        goes-none-slice 𝓤 H A W 4 (0 ∷ []) tt (plain (λ _. u8)) yes,
+        (
+          goes-slice 𝓤 H A W 4 1 tt (plain (λ _.
+              u16)),
+          (
+            goes-slice 𝓤 H A W 4 2 tt (plain (λ _. T.the-row)),
+            (
+              goes-slice 𝓤 H A W 4 3 tt (plain (λ _.
+                  u64)),
+              tt,
+            ),
+          ),
+        ),
+      ),
+    ) (own.clauses 𝓤 H A mem run) (WpFn 𝓤 H (𝓣 .C) (𝓣 .Λ) code.function) (WpFn-mono 𝓤 H (W .laws)
+    𝓣 code.function) (own-walks 𝓤 H A W mem run 𝓣 k-opening k-opens k-empty-newest k-count-if k-clear
+    k-empty-results k-opened)
 
 pub open-spec : {M : Type 1} → stated.statement M
 unfolding code.routine tablesOf
@@ -584,16 +717,16 @@ open-spec 𝓤 H 𝓜 𝓖 𝓡 =
     (tables 𝓤 H 𝓜 𝓡 code.env .C) (tables 𝓤 H 𝓜 𝓡 code.env .Λ) #own code.function (code.unfolded 𝓤 H 𝓜 𝓡)
     (own-meets 𝓤 H (𝓖 .A) (givenOf 𝓤 H 𝓜 𝓖) (𝓜 .mem) (𝓡 .run) (tablesOf 𝓤 H 𝓜 (tables 𝓤 H 𝓜 𝓡 code.env))
     (cited 𝓤 H (OpeningCall 𝓤 H (𝓖 .A) (𝓜 .mem) (𝓡 .run)) 𝓜 𝓡 code.env #opening opening-def.routine
-        code.calls-engine·State·opening (opening-thm.met 𝓤 H 𝓜 𝓖 𝓡))
+    code.calls-engine·State·opening (opening-thm.met 𝓤 H 𝓜 𝓖 𝓡))
     (cited 𝓤 H (Opens 𝓤 H (𝓖 .A) (𝓜 .mem) (𝓡 .run))
-        𝓜 𝓡 code.env #opens opens-def.routine code.calls-engine·open·opens (opens-thm.met 𝓤 H 𝓜 𝓖 𝓡))
+    𝓜 𝓡 code.env #opens opens-def.routine code.calls-engine·open·opens (opens-thm.met 𝓤 H 𝓜 𝓖 𝓡))
     (cited 𝓤 H (EmptyNewest 𝓤 H (𝓖 .A) (𝓜 .mem) (𝓡 .run)) 𝓜 𝓡 code.env #empty-newest empty-newest-def.routine
-        code.calls-engine·tables·empty-newest (empty-newest-thm.met 𝓤 H 𝓜 𝓖 𝓡))
+    code.calls-engine·tables·empty-newest (empty-newest-thm.met 𝓤 H 𝓜 𝓖 𝓡))
     (cited 𝓤 H (CountIf 𝓤 H (𝓖 .A) (𝓜 .mem) (𝓡 .run)) 𝓜 𝓡 code.env #count-if count-if-def.routine
-        code.calls-engine·tables·count-if (count-if-thm.met 𝓤 H 𝓜 𝓖 𝓡))
+    code.calls-engine·tables·count-if (count-if-thm.met 𝓤 H 𝓜 𝓖 𝓡))
     (cited 𝓤 H (ClearCall 𝓤 H (𝓖 .A) (𝓜 .mem) (𝓡 .run))
-        𝓜 𝓡 code.env #clear clear-def.routine code.calls-versions·clear (clear-thm.met 𝓤 H 𝓜 𝓖 𝓡))
+    𝓜 𝓡 code.env #clear clear-def.routine code.calls-versions·clear (clear-thm.met 𝓤 H 𝓜 𝓖 𝓡))
     (cited 𝓤 H (EmptyResults 𝓤 H (𝓖 .A) (𝓜 .mem) (𝓡 .run)) 𝓜 𝓡 code.env #empty-results empty-results-def.routine
-        code.calls-engine·tables·empty-results (empty-results-thm.met 𝓤 H 𝓜 𝓖 𝓡))
+    code.calls-engine·tables·empty-results (empty-results-thm.met 𝓤 H 𝓜 𝓖 𝓡))
     (cited 𝓤 H (OpenedCall 𝓤 H (𝓖 .A) (𝓜 .mem) (𝓡 .run))
-        𝓜 𝓡 code.env #opened opened-def.routine code.calls-engine·State·opened (opened-thm.met 𝓤 H 𝓜 𝓖 𝓡)))
+    𝓜 𝓡 code.env #opened opened-def.routine code.calls-engine·State·opened (opened-thm.met 𝓤 H 𝓜 𝓖 𝓡)))

@@ -140,8 +140,17 @@ use Rattle.engine.proofs.State.place.Code as code
 use Rattle.engine.proofs.State.place.Code.Mir as mir′
 
 abbrev stayed : Stays (own.ended .signature .params) (own.ended .kept)
-stayed = (stay-none (λ _. S.the-row) yes, (stay-none (λ _. usize) yes, (stay-none-slice (0 ∷ []) tt (plain (λ _.
-    u8)) yes, (stay-slice (1 ∷ []) tt (plain (λ _. u16)), (stay-slice (2 ∷ []) tt (plain (λ _. T.the-row)), tt)))))
+stayed = (
+  stay-none (λ _. S.the-row) yes,
+  (
+    stay-none (λ _. usize) yes,
+    (
+      stay-none-slice (0 ∷ []) tt (plain (λ _.
+          u8)) yes,
+      (stay-slice (1 ∷ []) tt (plain (λ _. u16)), (stay-slice (2 ∷ []) tt (plain (λ _. T.the-row)), tt)),
+    ),
+  ),
+)
 
 abbrev τ : ℕ → Ty
 τ = tyAt mir′.locals
@@ -163,17 +172,56 @@ module _ {M : Type 1} (𝓤 : URA M) (H : Heap 𝓤) (A : Atoms 𝓤) (W : Given
   m-versions = length versions
 
   abbrev a : (State × (ℕ × (RefT (List ℕ) × (RefT (List ℕ) × (RefT (List Version) × Unit {0})))))
-  a = (state, (p, (record { ptr = (b-log, o-log); name = δ-log; now = log }, (record { ptr =
-      (b-newest, o-newest); name = δ-newest; now = newest }, (record { ptr =
-      (b-versions, o-versions); name = δ-versions; now = versions }, tt)))))
+  a = (
+    state,
+    (
+      p,
+      (
+        record { ptr = (b-log, o-log); name = δ-log; now = log },
+        (
+          record {
+            ptr =
+                (b-newest, o-newest);
+            name = δ-newest;
+            now = newest;
+          },
+          (
+            record {
+              ptr =
+                  (b-versions, o-versions);
+              name = δ-versions;
+              now = versions;
+            },
+            tt,
+          ),
+        ),
+      ),
+    ),
+  )
 
   abbrev at : Vals own.signature (κ-log, (κ-newest, (κ-versions, tt)))
-  at = (Value.mach S.the-type S′.the-laws state ∷ [], (vint w64 p ∷ [], (sliceVal (b-log, o-log) m-log ∷ [],
-      (sliceVal (b-newest, o-newest) m-newest ∷ [], (sliceVal (b-versions, o-versions) m-versions ∷ [], tt)))))
+  at = (
+    Value.mach S.the-type S′.the-laws state ∷ [],
+    (
+      vint w64 p ∷ [],
+      (
+        sliceVal (b-log, o-log) m-log ∷ [],
+        (sliceVal (b-newest, o-newest) m-newest ∷ [], (sliceVal (b-versions, o-versions) m-versions ∷ [], tt)),
+      ),
+    ),
+  )
 
   abbrev Post : Val → SProp 𝓤
-  Post = walkOf 𝓤 H A own.ended stayed (own.clauses 𝓤 H A mem run) .post (((κ-log, (κ-newest, (κ-versions, tt))),
-      (q-log, (q-newest, (q-versions, tt))), bounds, a, at), tt)
+  Post = walkOf 𝓤 H A own.ended stayed (own.clauses 𝓤 H A mem run) .post (
+    (
+      (κ-log, (κ-newest, (κ-versions, tt))),
+      (q-log, (q-newest, (q-versions, tt))),
+      bounds,
+      a,
+      at,
+    ),
+    tt,
+  )
 
   exits : (h : Stepped) (z-newest : List ℕ) (z-versions : List Version)
       → h ≡ placeOf state p log newest versions .stepped
@@ -186,18 +234,18 @@ module _ {M : Type 1} (𝓤 : URA M) (H : Heap 𝓤) (A : Atoms 𝓤) (W : Given
       (flft κ-versions q-versions) ∷ [])) (Post (Value.mach Z.the-type Z′.the-laws h))
   exits h z-newest z-versions e-0 e-1 e-2 n-newest n-versions g-h =
       qed W (‵ (sees u8 b-log o-log m-log κ-log δ-log log) ∷ ‵ (flft κ-log q-log) ∷ ‵
-          (holds u16 b-newest o-newest m-newest κ-newest δ-newest z-newest) ∷ ‵ (flft κ-newest q-newest) ∷ ‵
-          (holds T.the-row b-versions o-versions m-versions κ-versions δ-versions z-versions) ∷ ‵
-          (flft κ-versions q-versions) ∷ []) ∵
-          suffices ! _ (ends-at 𝓤 H A own.ended stayed (own.clauses 𝓤 H A mem run) W
-          (((κ-log, (κ-newest, (κ-versions, tt))), (q-log, (q-newest, (q-versions, tt))), bounds, a, at), tt)
-          (Value.mach Z.the-type Z′.the-laws h) h (tt, (tt, (tt, (z-newest, (z-versions, tt)))))
-          (tt, (tt, (tt, (n-newest, (n-versions, tt)))))) $ says ! (e-0, (e-1, e-2)) $ nothing ! $
-          move ! (6 ∷ 0 ∷ []) $ join ! $ move ! (4 ∷ 0 ∷ []) $ join ! $ move ! (2 ∷ 0 ∷ []) $ join ! $ frame ! $
-          nothing ! $ move ! (3 ∷ 0 ∷ []) $ fjoin ! $ move ! (2 ∷ 0 ∷ []) $ fjoin ! $ move ! (1 ∷ 0 ∷ []) $ fjoin ! $
-          owned ! usize (Is usize) (uint-makes 𝓤 H A W w64) p _ (refl, g-p) $ fjoin ! $
-          owned ! S.the-row (Is S.the-row) (LL.makes S.the-type S′.the-plain 𝓤 H A) state _ g-state $ fjoin ! $
-          frame ! $ owned ! Z.the-row (Is Z.the-row) (LL.makes Z.the-type Z′.the-plain 𝓤 H A) h _ g-h $ done !
+      (holds u16 b-newest o-newest m-newest κ-newest δ-newest z-newest) ∷ ‵ (flft κ-newest q-newest) ∷ ‵
+      (holds T.the-row b-versions o-versions m-versions κ-versions δ-versions z-versions) ∷ ‵
+      (flft κ-versions q-versions) ∷ []) ∵
+      suffices ! _ (ends-at 𝓤 H A own.ended stayed (own.clauses 𝓤 H A mem run) W
+      (((κ-log, (κ-newest, (κ-versions, tt))), (q-log, (q-newest, (q-versions, tt))), bounds, a, at), tt)
+      (Value.mach Z.the-type Z′.the-laws h) h (tt, (tt, (tt, (z-newest, (z-versions, tt)))))
+      (tt, (tt, (tt, (n-newest, (n-versions, tt)))))) $ says ! (e-0, (e-1, e-2)) $ nothing ! $
+      move ! (6 ∷ 0 ∷ []) $ join ! $ move ! (4 ∷ 0 ∷ []) $ join ! $ move ! (2 ∷ 0 ∷ []) $ join ! $ frame ! $
+      nothing ! $ move ! (3 ∷ 0 ∷ []) $ fjoin ! $ move ! (2 ∷ 0 ∷ []) $ fjoin ! $ move ! (1 ∷ 0 ∷ []) $ fjoin ! $
+      owned ! usize (Is usize) (uint-makes 𝓤 H A W w64) p _ (refl, g-p) $ fjoin ! $
+      owned ! S.the-row (Is S.the-row) (LL.makes S.the-type S′.the-plain 𝓤 H A) state _ g-state $ fjoin ! $
+      frame ! $ owned ! Z.the-row (Is Z.the-row) (LL.makes Z.the-type Z′.the-plain 𝓤 H A) h _ g-h $ done !
 
   module _ (𝓣 : Tables 𝓤 H) (k-placing : Triple 𝓤 (𝓣 .C #placing) (PlacingCall 𝓤 H A mem run)) (k-write-at : Triple 𝓤
       (𝓣 .C #write-at) (WriteAt 𝓤 H A mem run)) (k-place-write : Triple 𝓤 (𝓣 .C #place-write)
@@ -211,16 +259,21 @@ module _ {M : Type 1} (𝓤 : URA M) (H : Heap 𝓤) (A : Atoms 𝓤) (W : Given
     fm : FmC 𝓤 H (W .laws) C
     fm = fmOf 𝓤 H (W .laws) 𝓣
 
-    walk : ent 𝓤 (onEntry 𝓤 H A own.signature (κ-log, (κ-newest, (κ-versions, tt))) (q-log, (q-newest,
-        (q-versions, tt))) a at) (WpFn 𝓤 H C Λ code.function (Value.mach S.the-type S′.the-laws state ∷ vint w64 p
+    walk : ent 𝓤 (onEntry 𝓤 H A own.signature (κ-log, (κ-newest, (κ-versions, tt))) (
+      q-log,
+      (
+        q-newest,
+        (q-versions, tt),
+      ),
+    ) a at) (WpFn 𝓤 H C Λ code.function (Value.mach S.the-type S′.the-laws state ∷ vint w64 p
         ∷ sliceVal (b-log, o-log) m-log ∷ sliceVal (b-newest, o-newest) m-newest ∷ sliceVal (b-versions, o-versions)
         m-versions ∷ []) Post)
     walk =
         qed W ((‵ (flft κ-log q-log) ⊛ ‵ (flft κ-newest q-newest) ⊛ ‵ (flft κ-versions q-versions) ⊛ ‵ ftrue) ∷ ‵
-            (owns (S.the-row ∷ usize ∷ ShrSlice (named 0) κ-log u8 ∷ MutSlice (named 1) κ-newest u16 ∷ MutSlice
-            (named 2) κ-versions T.the-row ∷ []) a at) ∷ []) ∵
-            enter ! C Λ code.function (Value.mach S.the-type S′.the-laws state ∷ vint w64 p ∷ sliceVal (b-log, o-log)
-            m-log ∷ sliceVal (b-newest, o-newest) m-newest ∷ sliceVal (b-versions, o-versions) m-versions ∷ []) _ $
+        (owns (S.the-row ∷ usize ∷ ShrSlice (named 0) κ-log u8 ∷ MutSlice (named 1) κ-newest u16 ∷ MutSlice
+        (named 2) κ-versions T.the-row ∷ []) a at) ∷ []) ∵
+        enter ! C Λ code.function (Value.mach S.the-type S′.the-laws state ∷ vint w64 p ∷ sliceVal (b-log, o-log)
+        m-log ∷ sliceVal (b-newest, o-newest) m-newest ∷ sliceVal (b-versions, o-versions) m-versions ∷ []) _ $
         alloc1 ! (λ l-0.
         alloc1 ! (λ l-1.
         alloc1 ! (λ l-2.
@@ -255,7 +308,7 @@ module _ {M : Type 1} (𝓤 : URA M) (H : Heap 𝓤) (A : Atoms 𝓤) (W : Given
         alloc0 ! $
         params1 ! $
         pass1 ! (init ! 58 refl (Value.typed S.the-type S′.the-laws 𝓤 H A W state
-            (Value.mach S.the-type S′.the-laws state) (refl, g-state))) $
+        (Value.mach S.the-type S′.the-laws state) (refl, g-state))) $
         pass1 ! (init ! 56 refl (tt, record { fits = g-p })) $
         pass1 ! (init ! 54 refl (tt, (tt, (record { fits = room-log .0 }, tt)))) $
         pass1 ! (init ! 52 refl (tt, (tt, (record { fits = room-newest .0 }, tt)))) $
@@ -282,93 +335,97 @@ module _ {M : Type 1} (𝓤 : URA M) (H : Heap 𝓤) (A : Atoms 𝓤) (W : Given
         move ! (1 ∷ []) $
         drop ! $
         assigns ! (addr ! (from ! (fld ! refl (hop ! (look-in ! 58 (sub ! 0 refl (whole !))) (stop !))))) (from !
-            (stop !)) (init ! 44 refl (tt, tt)) $
+        (stop !)) (init ! 44 refl (tt, tt)) $
         assigns ! (agg ! (and-then ! (load ! (from ! (stop !)) (look ! 44 refl)) (and-then ! (load ! (from !
-            (fld ! refl (stop !))) (look-in ! 58 (sub ! 1 refl (whole !)))) (no-more !)))) (from ! (stop !))
-            (init ! 42 refl (tt, (tt, (record { fits = room-newest .0 }, tt)))) $
+        (fld ! refl (stop !))) (look-in ! 58 (sub ! 1 refl (whole !)))) (no-more !)))) (from ! (stop !))
+        (init ! 42 refl (tt, (tt, (record { fits = room-newest .0 }, tt)))) $
         assigns ! (of-opd ! (load ! (from ! (fld ! refl (stop !))) (look-in ! 56 (sub ! 1 refl (whole !))))) (from !
-            (stop !)) (init ! 40 refl (tt, record { fits = room-versions .0 })) $
+        (stop !)) (init ! 40 refl (tt, record { fits = room-versions .0 })) $
         move ! (5 ∷ []) $
         use1 W (‵ (sees u8 b-log o-log m-log κ-log δ-log log) ⊛ ‵ (sees u8 b-log o-log m-log κ-log δ-log log))
-            (shr-slice-copy 𝓤 H A W (named 0) κ-log u8 .twice (record { ptr =
-            (b-log, o-log); name = δ-log; now = log }) (sliceVal (b-log, o-log) m-log ∷ [])) $
+        (shr-slice-copy 𝓤 H A W (named 0) κ-log u8 .twice (record {
+          ptr =
+              (b-log, o-log);
+          name = δ-log;
+          now = log;
+        }) (sliceVal (b-log, o-log) m-log ∷ [])) $
         split ! $
         move ! (6 ∷ 3 ∷ []) $
         lend-shr 𝓤 H A W u16 b-newest o-newest m-newest newest (refl) room-newest ! tt κ-newest q-newest δ-newest
-            (λ ν-newest1 δ-newest1.
+        (λ ν-newest1 δ-newest1.
         move ! (6 ∷ 3 ∷ 0 ∷ 1 ∷ []) $
         use4 W (raw (PlacingCall 𝓤 H A mem run .pre (to-placing 𝓤 H A W mem run state p log newest m-versions b-log
-            o-log m-log b-newest o-newest m-newest κ-log q-log δ-log (ν-newest1 ∷ []) fullShare δ-newest1)))
-            (placing-goes 𝓤 H A W mem run state p log newest m-versions b-log o-log m-log b-newest o-newest m-newest
-            κ-log q-log δ-log (ν-newest1 ∷ []) fullShare δ-newest1 g-state g-p (room-versions .0)) $
+        o-log m-log b-newest o-newest m-newest κ-log q-log δ-log (ν-newest1 ∷ []) fullShare δ-newest1)))
+        (placing-goes 𝓤 H A W mem run state p log newest m-versions b-log o-log m-log b-newest o-newest m-newest
+        κ-log q-log δ-log (ν-newest1 ∷ []) fullShare δ-newest1 g-state g-p (room-versions .0)) $
         calls-at ! fm (PlacingCall 𝓤 H A mem run) k-placing (to-placing 𝓤 H A W mem run state p log newest m-versions
-            b-log o-log m-log b-newest o-newest m-newest κ-log q-log δ-log (ν-newest1 ∷ []) fullShare δ-newest1)
-            (and-then ! (load ! (from ! (stop !)) (look ! 63 refl)) (and-then ! (load ! (from ! (stop !))
-            (look ! 61 refl)) (and-then ! (load ! (from ! (stop !)) (look ! 59 refl)) (and-then ! (load ! (from !
-            (stop !)) (look ! 41 refl)) (and-then ! (load ! (from ! (stop !)) (look ! 39 refl)) (no-more !)))))) (λ u1.
+        b-log o-log m-log b-newest o-newest m-newest κ-log q-log δ-log (ν-newest1 ∷ []) fullShare δ-newest1)
+        (and-then ! (load ! (from ! (stop !)) (look ! 63 refl)) (and-then ! (load ! (from ! (stop !))
+        (look ! 61 refl)) (and-then ! (load ! (from ! (stop !)) (look ! 59 refl)) (and-then ! (load ! (from !
+        (stop !)) (look ! 41 refl)) (and-then ! (load ! (from ! (stop !)) (look ! 39 refl)) (no-more !)))))) (λ u1.
         use1 W (later (some (λ (x : Unit {0}). given
-            (placing-said 𝓤 H A W mem run state p log newest m-versions b-log o-log m-log b-newest o-newest m-newest
-            κ-log q-log δ-log (ν-newest1 ∷ []) fullShare δ-newest1 u1 x) (‵ (flft κ-log q-log) ⊛ ‵
-            (flft (ν-newest1 ∷ []) fullShare))))) (placing-gives 𝓤 H A W mem run state p log newest m-versions b-log
-            o-log m-log b-newest o-newest m-newest κ-log q-log δ-log (ν-newest1 ∷ []) fullShare δ-newest1 u1) $
-            await ! tt $ pick ! (λ x1. learn ! (λ s1.
+        (placing-said 𝓤 H A W mem run state p log newest m-versions b-log o-log m-log b-newest o-newest m-newest
+        κ-log q-log δ-log (ν-newest1 ∷ []) fullShare δ-newest1 u1 x) (‵ (flft κ-log q-log) ⊛ ‵
+        (flft (ν-newest1 ∷ []) fullShare))))) (placing-gives 𝓤 H A W mem run state p log newest m-versions b-log
+        o-log m-log b-newest o-newest m-newest κ-log q-log δ-log (ν-newest1 ∷ []) fullShare δ-newest1 u1) $
+        await ! tt $ pick ! (λ x1. learn ! (λ s1.
         split ! $
         move ! (1 ∷ []) $
         move ! (0 ∷ 2 ∷ []) $
         back-shr 𝓤 H A W u16 b-newest o-newest m-newest newest (refl) room-newest ! tt κ-newest q-newest δ-newest
-            ν-newest1 (
+        ν-newest1 (
         land ! (from ! (stop !)) (init ! 54 refl (Value.typed P.the-type P′.the-laws 𝓤 H A W
-            (placingOf state p log newest m-versions) u1 (s1))) $
+        (placingOf state p log newest m-versions) u1 (s1))) $
         rewrite ! 54 (λ (z : Val). ‵ (fat fullShare (τ 6) l-6 0 z)) (s1 .0) refl $
         use0 W (raw (WriteAt 𝓤 H A mem run .pre (to-write-at 𝓤 H A W mem run
-            (placingOf state p log newest m-versions) 0))) (write-at-goes 𝓤 H A W mem run
-            (placingOf state p log newest m-versions) 0 (s1 .1) (lit< tt)) $
+        (placingOf state p log newest m-versions) 0))) (write-at-goes 𝓤 H A W mem run
+        (placingOf state p log newest m-versions) 0 (s1 .1) (lit< tt)) $
         calls-at ! fm (WriteAt 𝓤 H A mem run) k-write-at (to-write-at 𝓤 H A W mem run
-            (placingOf state p log newest m-versions) 0) (and-then ! (load ! (from ! (stop !)) (look ! 55 refl))
-            (and-then ! (lit ! tt) (no-more !))) (λ u2.
+        (placingOf state p log newest m-versions) 0) (and-then ! (load ! (from ! (stop !)) (look ! 55 refl))
+        (and-then ! (lit ! tt) (no-more !))) (λ u2.
         use1 W (later (some (λ (x : Unit {0}). given (write-at-said 𝓤 H A W mem run
-            (placingOf state p log newest m-versions) 0 u2 x) (raw (emp 𝓤))))) (write-at-gives 𝓤 H A W mem run
-            (placingOf state p log newest m-versions) 0 u2) $ await ! tt $ pick ! (λ x2. learn ! (λ s2.
+        (placingOf state p log newest m-versions) 0 u2 x) (raw (emp 𝓤))))) (write-at-gives 𝓤 H A W mem run
+        (placingOf state p log newest m-versions) 0 u2) $ await ! tt $ pick ! (λ x2. learn ! (λ s2.
         drop ! $
         land ! (from ! (stop !)) (init ! 52 refl (Value.typed Y.the-type Y′.the-laws 𝓤 H A W (writeAt
-            (placingOf state p log newest m-versions) 0) u2 (s2))) $
+        (placingOf state p log newest m-versions) 0) u2 (s2))) $
         rewrite ! 52 (λ (z : Val). ‵ (fat fullShare (τ 7) l-7 0 z)) (s2 .0) refl $
         assigns ! (addr ! (from ! (fld ! refl (hop ! (look-in ! 58 (sub ! 0 refl (whole !))) (stop !))))) (from !
-            (stop !)) (init ! 36 refl (tt, tt)) $
+        (stop !)) (init ! 36 refl (tt, tt)) $
         assigns ! (agg ! (and-then ! (load ! (from ! (stop !)) (look ! 36 refl)) (and-then ! (load ! (from !
-            (fld ! refl (stop !))) (look-in ! 58 (sub ! 1 refl (whole !)))) (no-more !)))) (from ! (stop !))
-            (init ! 34 refl (tt, (tt, (record { fits = room-newest .0 }, tt)))) $
+        (fld ! refl (stop !))) (look-in ! 58 (sub ! 1 refl (whole !)))) (no-more !)))) (from ! (stop !))
+        (init ! 34 refl (tt, (tt, (record { fits = room-newest .0 }, tt)))) $
         assigns ! (addr ! (from ! (fld ! refl (hop ! (look-in ! 56 (sub ! 0 refl (whole !))) (stop !))))) (from !
-            (stop !)) (init ! 32 refl (tt, tt)) $
+        (stop !)) (init ! 32 refl (tt, tt)) $
         assigns ! (agg ! (and-then ! (load ! (from ! (stop !)) (look ! 32 refl)) (and-then ! (load ! (from !
-            (fld ! refl (stop !))) (look-in ! 56 (sub ! 1 refl (whole !)))) (no-more !)))) (from ! (stop !))
-            (init ! 30 refl (tt, (tt, (record { fits = room-versions .0 }, tt)))) $
+        (fld ! refl (stop !))) (look-in ! 56 (sub ! 1 refl (whole !)))) (no-more !)))) (from ! (stop !))
+        (init ! 30 refl (tt, (tt, (record { fits = room-versions .0 }, tt)))) $
         lend-mut 𝓤 H A W u16 b-newest o-newest m-newest newest (refl) room-newest ! tt κ-newest q-newest δ-newest
-            (λ ν-newest3 δ-newest3.
+        (λ ν-newest3 δ-newest3.
         move ! (6 ∷ 5 ∷ []) $
         lend-mut 𝓤 H A W T.the-row b-versions o-versions m-versions versions (refl)
-            room-versions ! tt κ-versions q-versions δ-versions (λ ν-versions3 δ-versions3.
+        room-versions ! tt κ-versions q-versions δ-versions (λ ν-versions3 δ-versions3.
         move ! (3 ∷ 4 ∷ 0 ∷ 1 ∷ []) $
         use4 W (raw (PlaceWrite 𝓤 H A mem run .pre (to-place-write 𝓤 H A W mem run newest versions (writeAt
-            (placingOf state p log newest m-versions) 0) b-newest o-newest m-newest b-versions o-versions m-versions
-            (ν-newest3 ∷ []) fullShare δ-newest3 (ν-versions3 ∷ []) fullShare δ-versions3)))
-            (place-write-goes 𝓤 H A W mem run newest versions (writeAt (placingOf state p log newest m-versions) 0)
-            b-newest o-newest m-newest b-versions o-versions m-versions (ν-newest3 ∷ []) fullShare δ-newest3
-            (ν-versions3 ∷ []) fullShare δ-versions3 (s2 .1)) $
+        (placingOf state p log newest m-versions) 0) b-newest o-newest m-newest b-versions o-versions m-versions
+        (ν-newest3 ∷ []) fullShare δ-newest3 (ν-versions3 ∷ []) fullShare δ-versions3)))
+        (place-write-goes 𝓤 H A W mem run newest versions (writeAt (placingOf state p log newest m-versions) 0)
+        b-newest o-newest m-newest b-versions o-versions m-versions (ν-newest3 ∷ []) fullShare δ-newest3
+        (ν-versions3 ∷ []) fullShare δ-versions3 (s2 .1)) $
         calls-at ! fm (PlaceWrite 𝓤 H A mem run) k-place-write (to-place-write 𝓤 H A W mem run newest versions
-            (writeAt (placingOf state p log newest m-versions) 0) b-newest o-newest m-newest b-versions o-versions
-            m-versions (ν-newest3 ∷ []) fullShare δ-newest3 (ν-versions3 ∷ []) fullShare δ-versions3) (and-then !
-            (load ! (from ! (stop !)) (look ! 33 refl)) (and-then ! (load ! (from ! (stop !)) (look ! 29 refl))
-            (and-then ! (load ! (from ! (stop !)) (look ! 51 refl)) (no-more !)))) (λ u3.
+        (writeAt (placingOf state p log newest m-versions) 0) b-newest o-newest m-newest b-versions o-versions
+        m-versions (ν-newest3 ∷ []) fullShare δ-newest3 (ν-versions3 ∷ []) fullShare δ-versions3) (and-then !
+        (load ! (from ! (stop !)) (look ! 33 refl)) (and-then ! (load ! (from ! (stop !)) (look ! 29 refl))
+        (and-then ! (load ! (from ! (stop !)) (look ! 51 refl)) (no-more !)))) (λ u3.
         use1 W (later (some (λ (x : (List ℕ) × (List Version)). given
-            (place-write-said 𝓤 H A W mem run newest versions (writeAt (placingOf state p log newest m-versions) 0)
-            b-newest o-newest m-newest b-versions o-versions m-versions (ν-newest3 ∷ []) fullShare δ-newest3
-            (ν-versions3 ∷ []) fullShare δ-versions3 u3 x) (‵ (flft (ν-newest3 ∷ []) fullShare) ⊛ ‵
-            (finally u16 δ-newest3 (x .0)) ⊛ ‵ (flft (ν-versions3 ∷ []) fullShare) ⊛ ‵ (finally T.the-row δ-versions3
-            (x .1)))))) (place-write-gives 𝓤 H A W mem run newest versions (writeAt
-            (placingOf state p log newest m-versions) 0) b-newest o-newest m-newest b-versions o-versions m-versions
-            (ν-newest3 ∷ []) fullShare δ-newest3 (ν-versions3 ∷ []) fullShare δ-versions3 u3) $ await ! tt $
-            pick ! (λ x3. learn ! (λ s3.
+        (place-write-said 𝓤 H A W mem run newest versions (writeAt (placingOf state p log newest m-versions) 0)
+        b-newest o-newest m-newest b-versions o-versions m-versions (ν-newest3 ∷ []) fullShare δ-newest3
+        (ν-versions3 ∷ []) fullShare δ-versions3 u3 x) (‵ (flft (ν-newest3 ∷ []) fullShare) ⊛ ‵
+        (finally u16 δ-newest3 (x .0)) ⊛ ‵ (flft (ν-versions3 ∷ []) fullShare) ⊛ ‵ (finally T.the-row δ-versions3
+        (x .1)))))) (place-write-gives 𝓤 H A W mem run newest versions (writeAt
+        (placingOf state p log newest m-versions) 0) b-newest o-newest m-newest b-versions o-versions m-versions
+        (ν-newest3 ∷ []) fullShare δ-newest3 (ν-versions3 ∷ []) fullShare δ-versions3 u3) $ await ! tt $
+        pick ! (λ x3. learn ! (λ s3.
         split ! $
         move ! (1 ∷ []) $
         split ! $
@@ -377,76 +434,76 @@ module _ {M : Type 1} (𝓤 : URA M) (H : Heap 𝓤) (A : Atoms 𝓤) (W : Given
         move ! (1 ∷ []) $
         move ! (3 ∷ 2 ∷ 5 ∷ []) $
         back-mut 𝓤 H A W u16 b-newest o-newest m-newest newest (refl) room-newest ! tt κ-newest q-newest δ-newest
-            ν-newest3 δ-newest3 (x3 .0) (s3 .1 .1 .1 .0) (
+        ν-newest3 δ-newest3 (x3 .0) (s3 .1 .1 .1 .0) (
         rewrite ! 0 (λ (l : List ℕ). ‵ (holds u16 b-newest o-newest m-newest κ-newest δ-newest l)) (s3 .1 .0) refl $
         move ! (3 ∷ 2 ∷ 4 ∷ []) $
         back-mut 𝓤 H A W T.the-row b-versions o-versions m-versions versions (refl)
-            room-versions ! tt κ-versions q-versions δ-versions ν-versions3 δ-versions3 (x3 .1) (s3 .1 .1 .1 .1) (
+        room-versions ! tt κ-versions q-versions δ-versions ν-versions3 δ-versions3 (x3 .1) (s3 .1 .1 .1 .1) (
         rewrite ! 0 (λ (l : List Version). ‵
-            (holds T.the-row b-versions o-versions m-versions κ-versions δ-versions l)) (s3 .1 .1 .0) refl $
+        (holds T.the-row b-versions o-versions m-versions κ-versions δ-versions l)) (s3 .1 .1 .0) refl $
         land ! (from ! (stop !)) (init ! 38 refl (unit-typed u3 (s3 .0))) $
         use0 W (raw (WriteAt 𝓤 H A mem run .pre (to-write-at 𝓤 H A W mem run
-            (placingOf state p log newest m-versions) 1))) (write-at-goes 𝓤 H A W mem run
-            (placingOf state p log newest m-versions) 1 (s1 .1) (lit< tt)) $
+        (placingOf state p log newest m-versions) 1))) (write-at-goes 𝓤 H A W mem run
+        (placingOf state p log newest m-versions) 1 (s1 .1) (lit< tt)) $
         calls-at ! fm (WriteAt 𝓤 H A mem run) k-write-at (to-write-at 𝓤 H A W mem run
-            (placingOf state p log newest m-versions) 1) (and-then ! (load ! (from ! (stop !)) (look ! 55 refl))
-            (and-then ! (lit ! tt) (no-more !))) (λ u4.
+        (placingOf state p log newest m-versions) 1) (and-then ! (load ! (from ! (stop !)) (look ! 55 refl))
+        (and-then ! (lit ! tt) (no-more !))) (λ u4.
         use1 W (later (some (λ (x : Unit {0}). given (write-at-said 𝓤 H A W mem run
-            (placingOf state p log newest m-versions) 1 u4 x) (raw (emp 𝓤))))) (write-at-gives 𝓤 H A W mem run
-            (placingOf state p log newest m-versions) 1 u4) $ await ! tt $ pick ! (λ x4. learn ! (λ s4.
+        (placingOf state p log newest m-versions) 1 u4 x) (raw (emp 𝓤))))) (write-at-gives 𝓤 H A W mem run
+        (placingOf state p log newest m-versions) 1 u4) $ await ! tt $ pick ! (λ x4. learn ! (λ s4.
         drop ! $
         land ! (from ! (stop !)) (init ! 50 refl (Value.typed Y.the-type Y′.the-laws 𝓤 H A W (writeAt
-            (placingOf state p log newest m-versions) 1) u4 (s4))) $
+        (placingOf state p log newest m-versions) 1) u4 (s4))) $
         rewrite ! 50 (λ (z : Val). ‵ (fat fullShare (τ 8) l-8 0 z)) (s4 .0) refl $
         assigns ! (addr ! (from ! (fld ! refl (hop ! (look-in ! 58 (sub ! 0 refl (whole !))) (stop !))))) (from !
-            (stop !)) (init ! 28 refl (tt, tt)) $
+        (stop !)) (init ! 28 refl (tt, tt)) $
         assigns ! (agg ! (and-then ! (load ! (from ! (stop !)) (look ! 28 refl)) (and-then ! (load ! (from !
-            (fld ! refl (stop !))) (look-in ! 58 (sub ! 1 refl (whole !)))) (no-more !)))) (from ! (stop !))
-            (init ! 26 refl (tt, (tt, (record { fits = room-newest .0 }, tt)))) $
+        (fld ! refl (stop !))) (look-in ! 58 (sub ! 1 refl (whole !)))) (no-more !)))) (from ! (stop !))
+        (init ! 26 refl (tt, (tt, (record { fits = room-newest .0 }, tt)))) $
         assigns ! (addr ! (from ! (fld ! refl (hop ! (look-in ! 56 (sub ! 0 refl (whole !))) (stop !))))) (from !
-            (stop !)) (init ! 24 refl (tt, tt)) $
+        (stop !)) (init ! 24 refl (tt, tt)) $
         assigns ! (agg ! (and-then ! (load ! (from ! (stop !)) (look ! 24 refl)) (and-then ! (load ! (from !
-            (fld ! refl (stop !))) (look-in ! 56 (sub ! 1 refl (whole !)))) (no-more !)))) (from ! (stop !))
-            (init ! 22 refl (tt, (tt, (record { fits = room-versions .0 }, tt)))) $
+        (fld ! refl (stop !))) (look-in ! 56 (sub ! 1 refl (whole !)))) (no-more !)))) (from ! (stop !))
+        (init ! 22 refl (tt, (tt, (record { fits = room-versions .0 }, tt)))) $
         move ! (2 ∷ 3 ∷ []) $
         lend-mut 𝓤 H A W u16 b-newest o-newest m-newest (makeNewest newest (writeAt
-            (placingOf state p log newest m-versions) 0)) (sym (ap (λ (l : List ℕ). length l) (s3 .1 .0))
-            ∙ s3 .1 .1 .1 .0 ∙ refl) room-newest ! tt κ-newest q-newest δ-newest (λ ν-newest5 δ-newest5.
+        (placingOf state p log newest m-versions) 0)) (sym (ap (λ (l : List ℕ). length l) (s3 .1 .0))
+        ∙ s3 .1 .1 .1 .0 ∙ refl) room-newest ! tt κ-newest q-newest δ-newest (λ ν-newest5 δ-newest5.
         move ! (3 ∷ 4 ∷ []) $
         lend-mut 𝓤 H A W T.the-row b-versions o-versions m-versions (linkOf versions (linkBehind newest
-            (length versions) (writeAt (placingOf state p log newest m-versions) 0)))
-            (sym (ap (λ (l : List Version). length l) (s3 .1 .1 .0)) ∙ s3 .1 .1 .1 .1 ∙ refl)
-            room-versions ! tt κ-versions q-versions δ-versions (λ ν-versions5 δ-versions5.
+        (length versions) (writeAt (placingOf state p log newest m-versions) 0)))
+        (sym (ap (λ (l : List Version). length l) (s3 .1 .1 .0)) ∙ s3 .1 .1 .1 .1 ∙ refl)
+        room-versions ! tt κ-versions q-versions δ-versions (λ ν-versions5 δ-versions5.
         move ! (3 ∷ 4 ∷ 0 ∷ 1 ∷ []) $
         use4 W (raw (PlaceWrite 𝓤 H A mem run .pre (to-place-write 𝓤 H A W mem run (makeNewest newest (writeAt
-            (placingOf state p log newest m-versions) 0)) (linkOf versions (linkBehind newest (length versions)
-            (writeAt (placingOf state p log newest m-versions) 0))) (writeAt
-            (placingOf state p log newest m-versions) 1) b-newest o-newest m-newest b-versions o-versions m-versions
-            (ν-newest5 ∷ []) fullShare δ-newest5 (ν-versions5 ∷ []) fullShare δ-versions5)))
-            (place-write-goes 𝓤 H A W mem run (makeNewest newest (writeAt (placingOf state p log newest m-versions)
-            0)) (linkOf versions (linkBehind newest (length versions) (writeAt
-            (placingOf state p log newest m-versions) 0))) (writeAt (placingOf state p log newest m-versions) 1)
-            b-newest o-newest m-newest b-versions o-versions m-versions (ν-newest5 ∷ []) fullShare δ-newest5
-            (ν-versions5 ∷ []) fullShare δ-versions5 (s4 .1)) $
+        (placingOf state p log newest m-versions) 0)) (linkOf versions (linkBehind newest (length versions)
+        (writeAt (placingOf state p log newest m-versions) 0))) (writeAt
+        (placingOf state p log newest m-versions) 1) b-newest o-newest m-newest b-versions o-versions m-versions
+        (ν-newest5 ∷ []) fullShare δ-newest5 (ν-versions5 ∷ []) fullShare δ-versions5)))
+        (place-write-goes 𝓤 H A W mem run (makeNewest newest (writeAt (placingOf state p log newest m-versions)
+        0)) (linkOf versions (linkBehind newest (length versions) (writeAt
+        (placingOf state p log newest m-versions) 0))) (writeAt (placingOf state p log newest m-versions) 1)
+        b-newest o-newest m-newest b-versions o-versions m-versions (ν-newest5 ∷ []) fullShare δ-newest5
+        (ν-versions5 ∷ []) fullShare δ-versions5 (s4 .1)) $
         calls-at ! fm (PlaceWrite 𝓤 H A mem run) k-place-write (to-place-write 𝓤 H A W mem run (makeNewest newest
-            (writeAt (placingOf state p log newest m-versions) 0)) (linkOf versions (linkBehind newest
-            (length versions) (writeAt (placingOf state p log newest m-versions) 0))) (writeAt
-            (placingOf state p log newest m-versions) 1) b-newest o-newest m-newest b-versions o-versions m-versions
-            (ν-newest5 ∷ []) fullShare δ-newest5 (ν-versions5 ∷ []) fullShare δ-versions5) (and-then ! (load !
-            (from ! (stop !)) (look ! 25 refl)) (and-then ! (load ! (from ! (stop !)) (look ! 21 refl)) (and-then !
-            (load ! (from ! (stop !)) (look ! 49 refl)) (no-more !)))) (λ u5.
+        (writeAt (placingOf state p log newest m-versions) 0)) (linkOf versions (linkBehind newest
+        (length versions) (writeAt (placingOf state p log newest m-versions) 0))) (writeAt
+        (placingOf state p log newest m-versions) 1) b-newest o-newest m-newest b-versions o-versions m-versions
+        (ν-newest5 ∷ []) fullShare δ-newest5 (ν-versions5 ∷ []) fullShare δ-versions5) (and-then ! (load !
+        (from ! (stop !)) (look ! 25 refl)) (and-then ! (load ! (from ! (stop !)) (look ! 21 refl)) (and-then !
+        (load ! (from ! (stop !)) (look ! 49 refl)) (no-more !)))) (λ u5.
         use1 W (later (some (λ (x : (List ℕ) × (List Version)). given (place-write-said 𝓤 H A W mem run
-            (makeNewest newest (writeAt (placingOf state p log newest m-versions) 0)) (linkOf versions
-            (linkBehind newest (length versions) (writeAt (placingOf state p log newest m-versions) 0))) (writeAt
-            (placingOf state p log newest m-versions) 1) b-newest o-newest m-newest b-versions o-versions m-versions
-            (ν-newest5 ∷ []) fullShare δ-newest5 (ν-versions5 ∷ []) fullShare δ-versions5 u5 x)
-            (‵ (flft (ν-newest5 ∷ []) fullShare) ⊛ ‵ (finally u16 δ-newest5 (x .0)) ⊛ ‵ (flft (ν-versions5 ∷ [])
-            fullShare) ⊛ ‵ (finally T.the-row δ-versions5 (x .1)))))) (place-write-gives 𝓤 H A W mem run
-            (makeNewest newest (writeAt (placingOf state p log newest m-versions) 0)) (linkOf versions
-            (linkBehind newest (length versions) (writeAt (placingOf state p log newest m-versions) 0))) (writeAt
-            (placingOf state p log newest m-versions) 1) b-newest o-newest m-newest b-versions o-versions m-versions
-            (ν-newest5 ∷ []) fullShare δ-newest5 (ν-versions5 ∷ []) fullShare δ-versions5 u5) $ await ! tt $
-            pick ! (λ x5. learn ! (λ s5.
+        (makeNewest newest (writeAt (placingOf state p log newest m-versions) 0)) (linkOf versions
+        (linkBehind newest (length versions) (writeAt (placingOf state p log newest m-versions) 0))) (writeAt
+        (placingOf state p log newest m-versions) 1) b-newest o-newest m-newest b-versions o-versions m-versions
+        (ν-newest5 ∷ []) fullShare δ-newest5 (ν-versions5 ∷ []) fullShare δ-versions5 u5 x)
+        (‵ (flft (ν-newest5 ∷ []) fullShare) ⊛ ‵ (finally u16 δ-newest5 (x .0)) ⊛ ‵ (flft (ν-versions5 ∷ [])
+        fullShare) ⊛ ‵ (finally T.the-row δ-versions5 (x .1)))))) (place-write-gives 𝓤 H A W mem run
+        (makeNewest newest (writeAt (placingOf state p log newest m-versions) 0)) (linkOf versions
+        (linkBehind newest (length versions) (writeAt (placingOf state p log newest m-versions) 0))) (writeAt
+        (placingOf state p log newest m-versions) 1) b-newest o-newest m-newest b-versions o-versions m-versions
+        (ν-newest5 ∷ []) fullShare δ-newest5 (ν-versions5 ∷ []) fullShare δ-versions5 u5) $ await ! tt $
+        pick ! (λ x5. learn ! (λ s5.
         split ! $
         move ! (1 ∷ []) $
         split ! $
@@ -455,102 +512,102 @@ module _ {M : Type 1} (𝓤 : URA M) (H : Heap 𝓤) (A : Atoms 𝓤) (W : Given
         move ! (1 ∷ []) $
         move ! (3 ∷ 2 ∷ 5 ∷ []) $
         back-mut 𝓤 H A W u16 b-newest o-newest m-newest (makeNewest newest (writeAt
-            (placingOf state p log newest m-versions) 0)) (sym (ap (λ (l : List ℕ). length l) (s3 .1 .0))
-            ∙ s3 .1 .1 .1 .0 ∙ refl) room-newest ! tt κ-newest q-newest δ-newest ν-newest5 δ-newest5 (x5 .0)
-            (s5 .1 .1 .1 .0) (
+        (placingOf state p log newest m-versions) 0)) (sym (ap (λ (l : List ℕ). length l) (s3 .1 .0))
+        ∙ s3 .1 .1 .1 .0 ∙ refl) room-newest ! tt κ-newest q-newest δ-newest ν-newest5 δ-newest5 (x5 .0)
+        (s5 .1 .1 .1 .0) (
         rewrite ! 0 (λ (l : List ℕ). ‵ (holds u16 b-newest o-newest m-newest κ-newest δ-newest l)) (s5 .1 .0) refl $
         move ! (3 ∷ 2 ∷ 4 ∷ []) $
         back-mut 𝓤 H A W T.the-row b-versions o-versions m-versions (linkOf versions (linkBehind newest
-            (length versions) (writeAt (placingOf state p log newest m-versions) 0)))
-            (sym (ap (λ (l : List Version). length l) (s3 .1 .1 .0)) ∙ s3 .1 .1 .1 .1 ∙ refl)
-            room-versions ! tt κ-versions q-versions δ-versions ν-versions5 δ-versions5 (x5 .1) (s5 .1 .1 .1 .1) (
+        (length versions) (writeAt (placingOf state p log newest m-versions) 0)))
+        (sym (ap (λ (l : List Version). length l) (s3 .1 .1 .0)) ∙ s3 .1 .1 .1 .1 ∙ refl)
+        room-versions ! tt κ-versions q-versions δ-versions ν-versions5 δ-versions5 (x5 .1) (s5 .1 .1 .1 .1) (
         rewrite ! 0 (λ (l : List Version). ‵
-            (holds T.the-row b-versions o-versions m-versions κ-versions δ-versions l)) (s5 .1 .1 .0) refl $
+        (holds T.the-row b-versions o-versions m-versions κ-versions δ-versions l)) (s5 .1 .1 .0) refl $
         land ! (from ! (stop !)) (store ! 38 refl (unit-typed u5 (s5 .0))) $
         use0 W (raw (WriteAt 𝓤 H A mem run .pre (to-write-at 𝓤 H A W mem run
-            (placingOf state p log newest m-versions) 2))) (write-at-goes 𝓤 H A W mem run
-            (placingOf state p log newest m-versions) 2 (s1 .1) (lit< tt)) $
+        (placingOf state p log newest m-versions) 2))) (write-at-goes 𝓤 H A W mem run
+        (placingOf state p log newest m-versions) 2 (s1 .1) (lit< tt)) $
         calls-at ! fm (WriteAt 𝓤 H A mem run) k-write-at (to-write-at 𝓤 H A W mem run
-            (placingOf state p log newest m-versions) 2) (and-then ! (load ! (from ! (stop !)) (look ! 55 refl))
-            (and-then ! (lit ! tt) (no-more !))) (λ u6.
+        (placingOf state p log newest m-versions) 2) (and-then ! (load ! (from ! (stop !)) (look ! 55 refl))
+        (and-then ! (lit ! tt) (no-more !))) (λ u6.
         use1 W (later (some (λ (x : Unit {0}). given (write-at-said 𝓤 H A W mem run
-            (placingOf state p log newest m-versions) 2 u6 x) (raw (emp 𝓤))))) (write-at-gives 𝓤 H A W mem run
-            (placingOf state p log newest m-versions) 2 u6) $ await ! tt $ pick ! (λ x6. learn ! (λ s6.
+        (placingOf state p log newest m-versions) 2 u6 x) (raw (emp 𝓤))))) (write-at-gives 𝓤 H A W mem run
+        (placingOf state p log newest m-versions) 2 u6) $ await ! tt $ pick ! (λ x6. learn ! (λ s6.
         drop ! $
         land ! (from ! (stop !)) (init ! 48 refl (Value.typed Y.the-type Y′.the-laws 𝓤 H A W (writeAt
-            (placingOf state p log newest m-versions) 2) u6 (s6))) $
+        (placingOf state p log newest m-versions) 2) u6 (s6))) $
         rewrite ! 48 (λ (z : Val). ‵ (fat fullShare (τ 9) l-9 0 z)) (s6 .0) refl $
         assigns ! (addr ! (from ! (fld ! refl (hop ! (look-in ! 58 (sub ! 0 refl (whole !))) (stop !))))) (from !
-            (stop !)) (init ! 20 refl (tt, tt)) $
+        (stop !)) (init ! 20 refl (tt, tt)) $
         assigns ! (agg ! (and-then ! (load ! (from ! (stop !)) (look ! 20 refl)) (and-then ! (load ! (from !
-            (fld ! refl (stop !))) (look-in ! 58 (sub ! 1 refl (whole !)))) (no-more !)))) (from ! (stop !))
-            (init ! 18 refl (tt, (tt, (record { fits = room-newest .0 }, tt)))) $
+        (fld ! refl (stop !))) (look-in ! 58 (sub ! 1 refl (whole !)))) (no-more !)))) (from ! (stop !))
+        (init ! 18 refl (tt, (tt, (record { fits = room-newest .0 }, tt)))) $
         assigns ! (addr ! (from ! (fld ! refl (hop ! (look-in ! 56 (sub ! 0 refl (whole !))) (stop !))))) (from !
-            (stop !)) (init ! 16 refl (tt, tt)) $
+        (stop !)) (init ! 16 refl (tt, tt)) $
         assigns ! (agg ! (and-then ! (load ! (from ! (stop !)) (look ! 16 refl)) (and-then ! (load ! (from !
-            (fld ! refl (stop !))) (look-in ! 56 (sub ! 1 refl (whole !)))) (no-more !)))) (from ! (stop !))
-            (init ! 14 refl (tt, (tt, (record { fits = room-versions .0 }, tt)))) $
+        (fld ! refl (stop !))) (look-in ! 56 (sub ! 1 refl (whole !)))) (no-more !)))) (from ! (stop !))
+        (init ! 14 refl (tt, (tt, (record { fits = room-versions .0 }, tt)))) $
         move ! (2 ∷ 3 ∷ []) $
         lend-mut 𝓤 H A W u16 b-newest o-newest m-newest (makeNewest (makeNewest newest (writeAt
-            (placingOf state p log newest m-versions) 0)) (writeAt (placingOf state p log newest m-versions) 1))
-            (sym (ap (λ (l : List ℕ). length l) (s5 .1 .0)) ∙ s5 .1 .1 .1 .0 ∙ sym (ap (λ (l : List ℕ). length l)
-            (s3 .1 .0)) ∙ s3 .1 .1 .1 .0 ∙ refl) room-newest ! tt κ-newest q-newest δ-newest (λ ν-newest7 δ-newest7.
+        (placingOf state p log newest m-versions) 0)) (writeAt (placingOf state p log newest m-versions) 1))
+        (sym (ap (λ (l : List ℕ). length l) (s5 .1 .0)) ∙ s5 .1 .1 .1 .0 ∙ sym (ap (λ (l : List ℕ). length l)
+        (s3 .1 .0)) ∙ s3 .1 .1 .1 .0 ∙ refl) room-newest ! tt κ-newest q-newest δ-newest (λ ν-newest7 δ-newest7.
         move ! (3 ∷ 4 ∷ []) $
         lend-mut 𝓤 H A W T.the-row b-versions o-versions m-versions (linkOf (linkOf versions (linkBehind newest
-            (length versions) (writeAt (placingOf state p log newest m-versions) 0))) (linkBehind (makeNewest newest
-            (writeAt (placingOf state p log newest m-versions) 0)) (length (linkOf versions (linkBehind newest
-            (length versions) (writeAt (placingOf state p log newest m-versions) 0)))) (writeAt
-            (placingOf state p log newest m-versions) 1))) (sym (ap (λ (l : List Version). length l) (s5 .1 .1 .0))
-            ∙ s5 .1 .1 .1 .1 ∙ sym (ap (λ (l : List Version). length l) (s3 .1 .1 .0)) ∙ s3 .1 .1 .1 .1 ∙ refl)
-            room-versions ! tt κ-versions q-versions δ-versions (λ ν-versions7 δ-versions7.
+        (length versions) (writeAt (placingOf state p log newest m-versions) 0))) (linkBehind (makeNewest newest
+        (writeAt (placingOf state p log newest m-versions) 0)) (length (linkOf versions (linkBehind newest
+        (length versions) (writeAt (placingOf state p log newest m-versions) 0)))) (writeAt
+        (placingOf state p log newest m-versions) 1))) (sym (ap (λ (l : List Version). length l) (s5 .1 .1 .0))
+        ∙ s5 .1 .1 .1 .1 ∙ sym (ap (λ (l : List Version). length l) (s3 .1 .1 .0)) ∙ s3 .1 .1 .1 .1 ∙ refl)
+        room-versions ! tt κ-versions q-versions δ-versions (λ ν-versions7 δ-versions7.
         move ! (3 ∷ 4 ∷ 0 ∷ 1 ∷ []) $
         use4 W (raw (PlaceWrite 𝓤 H A mem run .pre (to-place-write 𝓤 H A W mem run (makeNewest (makeNewest newest
-            (writeAt (placingOf state p log newest m-versions) 0)) (writeAt (placingOf state p log newest m-versions)
-            1)) (linkOf (linkOf versions (linkBehind newest (length versions) (writeAt
-            (placingOf state p log newest m-versions) 0))) (linkBehind (makeNewest newest (writeAt
-            (placingOf state p log newest m-versions) 0)) (length (linkOf versions (linkBehind newest
-            (length versions) (writeAt (placingOf state p log newest m-versions) 0)))) (writeAt
-            (placingOf state p log newest m-versions) 1))) (writeAt (placingOf state p log newest m-versions) 2)
-            b-newest o-newest m-newest b-versions o-versions m-versions (ν-newest7 ∷ []) fullShare δ-newest7
-            (ν-versions7 ∷ []) fullShare δ-versions7))) (place-write-goes 𝓤 H A W mem run (makeNewest
-            (makeNewest newest (writeAt (placingOf state p log newest m-versions) 0)) (writeAt
-            (placingOf state p log newest m-versions) 1)) (linkOf (linkOf versions (linkBehind newest
-            (length versions) (writeAt (placingOf state p log newest m-versions) 0))) (linkBehind (makeNewest newest
-            (writeAt (placingOf state p log newest m-versions) 0)) (length (linkOf versions (linkBehind newest
-            (length versions) (writeAt (placingOf state p log newest m-versions) 0)))) (writeAt
-            (placingOf state p log newest m-versions) 1))) (writeAt (placingOf state p log newest m-versions) 2)
-            b-newest o-newest m-newest b-versions o-versions m-versions (ν-newest7 ∷ []) fullShare δ-newest7
-            (ν-versions7 ∷ []) fullShare δ-versions7 (s6 .1)) $
+        (writeAt (placingOf state p log newest m-versions) 0)) (writeAt (placingOf state p log newest m-versions)
+        1)) (linkOf (linkOf versions (linkBehind newest (length versions) (writeAt
+        (placingOf state p log newest m-versions) 0))) (linkBehind (makeNewest newest (writeAt
+        (placingOf state p log newest m-versions) 0)) (length (linkOf versions (linkBehind newest
+        (length versions) (writeAt (placingOf state p log newest m-versions) 0)))) (writeAt
+        (placingOf state p log newest m-versions) 1))) (writeAt (placingOf state p log newest m-versions) 2)
+        b-newest o-newest m-newest b-versions o-versions m-versions (ν-newest7 ∷ []) fullShare δ-newest7
+        (ν-versions7 ∷ []) fullShare δ-versions7))) (place-write-goes 𝓤 H A W mem run (makeNewest
+        (makeNewest newest (writeAt (placingOf state p log newest m-versions) 0)) (writeAt
+        (placingOf state p log newest m-versions) 1)) (linkOf (linkOf versions (linkBehind newest
+        (length versions) (writeAt (placingOf state p log newest m-versions) 0))) (linkBehind (makeNewest newest
+        (writeAt (placingOf state p log newest m-versions) 0)) (length (linkOf versions (linkBehind newest
+        (length versions) (writeAt (placingOf state p log newest m-versions) 0)))) (writeAt
+        (placingOf state p log newest m-versions) 1))) (writeAt (placingOf state p log newest m-versions) 2)
+        b-newest o-newest m-newest b-versions o-versions m-versions (ν-newest7 ∷ []) fullShare δ-newest7
+        (ν-versions7 ∷ []) fullShare δ-versions7 (s6 .1)) $
         calls-at ! fm (PlaceWrite 𝓤 H A mem run) k-place-write (to-place-write 𝓤 H A W mem run (makeNewest
-            (makeNewest newest (writeAt (placingOf state p log newest m-versions) 0)) (writeAt
-            (placingOf state p log newest m-versions) 1)) (linkOf (linkOf versions (linkBehind newest
-            (length versions) (writeAt (placingOf state p log newest m-versions) 0))) (linkBehind (makeNewest newest
-            (writeAt (placingOf state p log newest m-versions) 0)) (length (linkOf versions (linkBehind newest
-            (length versions) (writeAt (placingOf state p log newest m-versions) 0)))) (writeAt
-            (placingOf state p log newest m-versions) 1))) (writeAt (placingOf state p log newest m-versions) 2)
-            b-newest o-newest m-newest b-versions o-versions m-versions (ν-newest7 ∷ []) fullShare δ-newest7
-            (ν-versions7 ∷ []) fullShare δ-versions7) (and-then ! (load ! (from ! (stop !)) (look ! 17 refl))
-            (and-then ! (load ! (from ! (stop !)) (look ! 13 refl)) (and-then ! (load ! (from ! (stop !))
-            (look ! 47 refl)) (no-more !)))) (λ u7.
+        (makeNewest newest (writeAt (placingOf state p log newest m-versions) 0)) (writeAt
+        (placingOf state p log newest m-versions) 1)) (linkOf (linkOf versions (linkBehind newest
+        (length versions) (writeAt (placingOf state p log newest m-versions) 0))) (linkBehind (makeNewest newest
+        (writeAt (placingOf state p log newest m-versions) 0)) (length (linkOf versions (linkBehind newest
+        (length versions) (writeAt (placingOf state p log newest m-versions) 0)))) (writeAt
+        (placingOf state p log newest m-versions) 1))) (writeAt (placingOf state p log newest m-versions) 2)
+        b-newest o-newest m-newest b-versions o-versions m-versions (ν-newest7 ∷ []) fullShare δ-newest7
+        (ν-versions7 ∷ []) fullShare δ-versions7) (and-then ! (load ! (from ! (stop !)) (look ! 17 refl))
+        (and-then ! (load ! (from ! (stop !)) (look ! 13 refl)) (and-then ! (load ! (from ! (stop !))
+        (look ! 47 refl)) (no-more !)))) (λ u7.
         use1 W (later (some (λ (x : (List ℕ) × (List Version)). given (place-write-said 𝓤 H A W mem run (makeNewest
-            (makeNewest newest (writeAt (placingOf state p log newest m-versions) 0)) (writeAt
-            (placingOf state p log newest m-versions) 1)) (linkOf (linkOf versions (linkBehind newest
-            (length versions) (writeAt (placingOf state p log newest m-versions) 0))) (linkBehind (makeNewest newest
-            (writeAt (placingOf state p log newest m-versions) 0)) (length (linkOf versions (linkBehind newest
-            (length versions) (writeAt (placingOf state p log newest m-versions) 0)))) (writeAt
-            (placingOf state p log newest m-versions) 1))) (writeAt (placingOf state p log newest m-versions) 2)
-            b-newest o-newest m-newest b-versions o-versions m-versions (ν-newest7 ∷ []) fullShare δ-newest7
-            (ν-versions7 ∷ []) fullShare δ-versions7 u7 x) (‵ (flft (ν-newest7 ∷ []) fullShare) ⊛ ‵
-            (finally u16 δ-newest7 (x .0)) ⊛ ‵ (flft (ν-versions7 ∷ []) fullShare) ⊛ ‵ (finally T.the-row δ-versions7
-            (x .1)))))) (place-write-gives 𝓤 H A W mem run (makeNewest (makeNewest newest (writeAt
-            (placingOf state p log newest m-versions) 0)) (writeAt (placingOf state p log newest m-versions) 1))
-            (linkOf (linkOf versions (linkBehind newest (length versions) (writeAt
-            (placingOf state p log newest m-versions) 0))) (linkBehind (makeNewest newest (writeAt
-            (placingOf state p log newest m-versions) 0)) (length (linkOf versions (linkBehind newest
-            (length versions) (writeAt (placingOf state p log newest m-versions) 0)))) (writeAt
-            (placingOf state p log newest m-versions) 1))) (writeAt (placingOf state p log newest m-versions) 2)
-            b-newest o-newest m-newest b-versions o-versions m-versions (ν-newest7 ∷ []) fullShare δ-newest7
-            (ν-versions7 ∷ []) fullShare δ-versions7 u7) $ await ! tt $ pick ! (λ x7. learn ! (λ s7.
+        (makeNewest newest (writeAt (placingOf state p log newest m-versions) 0)) (writeAt
+        (placingOf state p log newest m-versions) 1)) (linkOf (linkOf versions (linkBehind newest
+        (length versions) (writeAt (placingOf state p log newest m-versions) 0))) (linkBehind (makeNewest newest
+        (writeAt (placingOf state p log newest m-versions) 0)) (length (linkOf versions (linkBehind newest
+        (length versions) (writeAt (placingOf state p log newest m-versions) 0)))) (writeAt
+        (placingOf state p log newest m-versions) 1))) (writeAt (placingOf state p log newest m-versions) 2)
+        b-newest o-newest m-newest b-versions o-versions m-versions (ν-newest7 ∷ []) fullShare δ-newest7
+        (ν-versions7 ∷ []) fullShare δ-versions7 u7 x) (‵ (flft (ν-newest7 ∷ []) fullShare) ⊛ ‵
+        (finally u16 δ-newest7 (x .0)) ⊛ ‵ (flft (ν-versions7 ∷ []) fullShare) ⊛ ‵ (finally T.the-row δ-versions7
+        (x .1)))))) (place-write-gives 𝓤 H A W mem run (makeNewest (makeNewest newest (writeAt
+        (placingOf state p log newest m-versions) 0)) (writeAt (placingOf state p log newest m-versions) 1))
+        (linkOf (linkOf versions (linkBehind newest (length versions) (writeAt
+        (placingOf state p log newest m-versions) 0))) (linkBehind (makeNewest newest (writeAt
+        (placingOf state p log newest m-versions) 0)) (length (linkOf versions (linkBehind newest
+        (length versions) (writeAt (placingOf state p log newest m-versions) 0)))) (writeAt
+        (placingOf state p log newest m-versions) 1))) (writeAt (placingOf state p log newest m-versions) 2)
+        b-newest o-newest m-newest b-versions o-versions m-versions (ν-newest7 ∷ []) fullShare δ-newest7
+        (ν-versions7 ∷ []) fullShare δ-versions7 u7) $ await ! tt $ pick ! (λ x7. learn ! (λ s7.
         split ! $
         move ! (1 ∷ []) $
         split ! $
@@ -559,152 +616,152 @@ module _ {M : Type 1} (𝓤 : URA M) (H : Heap 𝓤) (A : Atoms 𝓤) (W : Given
         move ! (1 ∷ []) $
         move ! (3 ∷ 2 ∷ 5 ∷ []) $
         back-mut 𝓤 H A W u16 b-newest o-newest m-newest (makeNewest (makeNewest newest (writeAt
-            (placingOf state p log newest m-versions) 0)) (writeAt (placingOf state p log newest m-versions) 1))
-            (sym (ap (λ (l : List ℕ). length l) (s5 .1 .0)) ∙ s5 .1 .1 .1 .0 ∙ sym (ap (λ (l : List ℕ). length l)
-            (s3 .1 .0)) ∙ s3 .1 .1 .1 .0 ∙ refl) room-newest ! tt κ-newest q-newest δ-newest ν-newest7 δ-newest7
-            (x7 .0) (s7 .1 .1 .1 .0) (
+        (placingOf state p log newest m-versions) 0)) (writeAt (placingOf state p log newest m-versions) 1))
+        (sym (ap (λ (l : List ℕ). length l) (s5 .1 .0)) ∙ s5 .1 .1 .1 .0 ∙ sym (ap (λ (l : List ℕ). length l)
+        (s3 .1 .0)) ∙ s3 .1 .1 .1 .0 ∙ refl) room-newest ! tt κ-newest q-newest δ-newest ν-newest7 δ-newest7
+        (x7 .0) (s7 .1 .1 .1 .0) (
         rewrite ! 0 (λ (l : List ℕ). ‵ (holds u16 b-newest o-newest m-newest κ-newest δ-newest l)) (s7 .1 .0) refl $
         move ! (3 ∷ 2 ∷ 4 ∷ []) $
         back-mut 𝓤 H A W T.the-row b-versions o-versions m-versions (linkOf (linkOf versions (linkBehind newest
-            (length versions) (writeAt (placingOf state p log newest m-versions) 0))) (linkBehind (makeNewest newest
-            (writeAt (placingOf state p log newest m-versions) 0)) (length (linkOf versions (linkBehind newest
-            (length versions) (writeAt (placingOf state p log newest m-versions) 0)))) (writeAt
-            (placingOf state p log newest m-versions) 1))) (sym (ap (λ (l : List Version). length l) (s5 .1 .1 .0))
-            ∙ s5 .1 .1 .1 .1 ∙ sym (ap (λ (l : List Version). length l) (s3 .1 .1 .0)) ∙ s3 .1 .1 .1 .1 ∙ refl)
-            room-versions ! tt κ-versions q-versions δ-versions ν-versions7 δ-versions7 (x7 .1) (s7 .1 .1 .1 .1) (
+        (length versions) (writeAt (placingOf state p log newest m-versions) 0))) (linkBehind (makeNewest newest
+        (writeAt (placingOf state p log newest m-versions) 0)) (length (linkOf versions (linkBehind newest
+        (length versions) (writeAt (placingOf state p log newest m-versions) 0)))) (writeAt
+        (placingOf state p log newest m-versions) 1))) (sym (ap (λ (l : List Version). length l) (s5 .1 .1 .0))
+        ∙ s5 .1 .1 .1 .1 ∙ sym (ap (λ (l : List Version). length l) (s3 .1 .1 .0)) ∙ s3 .1 .1 .1 .1 ∙ refl)
+        room-versions ! tt κ-versions q-versions δ-versions ν-versions7 δ-versions7 (x7 .1) (s7 .1 .1 .1 .1) (
         rewrite ! 0 (λ (l : List Version). ‵
-            (holds T.the-row b-versions o-versions m-versions κ-versions δ-versions l)) (s7 .1 .1 .0) refl $
+        (holds T.the-row b-versions o-versions m-versions κ-versions δ-versions l)) (s7 .1 .1 .0) refl $
         land ! (from ! (stop !)) (store ! 38 refl (unit-typed u7 (s7 .0))) $
         use0 W (raw (WriteAt 𝓤 H A mem run .pre (to-write-at 𝓤 H A W mem run
-            (placingOf state p log newest m-versions) 3))) (write-at-goes 𝓤 H A W mem run
-            (placingOf state p log newest m-versions) 3 (s1 .1) (lit< tt)) $
+        (placingOf state p log newest m-versions) 3))) (write-at-goes 𝓤 H A W mem run
+        (placingOf state p log newest m-versions) 3 (s1 .1) (lit< tt)) $
         calls-at ! fm (WriteAt 𝓤 H A mem run) k-write-at (to-write-at 𝓤 H A W mem run
-            (placingOf state p log newest m-versions) 3) (and-then ! (load ! (from ! (stop !)) (look ! 55 refl))
-            (and-then ! (lit ! tt) (no-more !))) (λ u8.
+        (placingOf state p log newest m-versions) 3) (and-then ! (load ! (from ! (stop !)) (look ! 55 refl))
+        (and-then ! (lit ! tt) (no-more !))) (λ u8.
         use1 W (later (some (λ (x : Unit {0}). given (write-at-said 𝓤 H A W mem run
-            (placingOf state p log newest m-versions) 3 u8 x) (raw (emp 𝓤))))) (write-at-gives 𝓤 H A W mem run
-            (placingOf state p log newest m-versions) 3 u8) $ await ! tt $ pick ! (λ x8. learn ! (λ s8.
+        (placingOf state p log newest m-versions) 3 u8 x) (raw (emp 𝓤))))) (write-at-gives 𝓤 H A W mem run
+        (placingOf state p log newest m-versions) 3 u8) $ await ! tt $ pick ! (λ x8. learn ! (λ s8.
         drop ! $
         land ! (from ! (stop !)) (init ! 46 refl (Value.typed Y.the-type Y′.the-laws 𝓤 H A W (writeAt
-            (placingOf state p log newest m-versions) 3) u8 (s8))) $
+        (placingOf state p log newest m-versions) 3) u8 (s8))) $
         rewrite ! 46 (λ (z : Val). ‵ (fat fullShare (τ 10) l-10 0 z)) (s8 .0) refl $
         assigns ! (addr ! (from ! (fld ! refl (hop ! (look-in ! 58 (sub ! 0 refl (whole !))) (stop !))))) (from !
-            (stop !)) (init ! 12 refl (tt, tt)) $
+        (stop !)) (init ! 12 refl (tt, tt)) $
         assigns ! (agg ! (and-then ! (load ! (from ! (stop !)) (look ! 12 refl)) (and-then ! (load ! (from !
-            (fld ! refl (stop !))) (look-in ! 58 (sub ! 1 refl (whole !)))) (no-more !)))) (from ! (stop !))
-            (init ! 10 refl (tt, (tt, (record { fits = room-newest .0 }, tt)))) $
+        (fld ! refl (stop !))) (look-in ! 58 (sub ! 1 refl (whole !)))) (no-more !)))) (from ! (stop !))
+        (init ! 10 refl (tt, (tt, (record { fits = room-newest .0 }, tt)))) $
         assigns ! (addr ! (from ! (fld ! refl (hop ! (look-in ! 56 (sub ! 0 refl (whole !))) (stop !))))) (from !
-            (stop !)) (init ! 8 refl (tt, tt)) $
+        (stop !)) (init ! 8 refl (tt, tt)) $
         assigns ! (agg ! (and-then ! (load ! (from ! (stop !)) (look ! 8 refl)) (and-then ! (load ! (from !
-            (fld ! refl (stop !))) (look-in ! 56 (sub ! 1 refl (whole !)))) (no-more !)))) (from ! (stop !))
-            (init ! 6 refl (tt, (tt, (record { fits = room-versions .0 }, tt)))) $
+        (fld ! refl (stop !))) (look-in ! 56 (sub ! 1 refl (whole !)))) (no-more !)))) (from ! (stop !))
+        (init ! 6 refl (tt, (tt, (record { fits = room-versions .0 }, tt)))) $
         move ! (2 ∷ 3 ∷ []) $
         lend-mut 𝓤 H A W u16 b-newest o-newest m-newest (makeNewest (makeNewest (makeNewest newest (writeAt
-            (placingOf state p log newest m-versions) 0)) (writeAt (placingOf state p log newest m-versions) 1))
-            (writeAt (placingOf state p log newest m-versions) 2)) (sym (ap (λ (l : List ℕ). length l) (s7 .1 .0))
-            ∙ s7 .1 .1 .1 .0 ∙ sym (ap (λ (l : List ℕ). length l) (s5 .1 .0)) ∙ s5 .1 .1 .1 .0 ∙ sym
-            (ap (λ (l : List ℕ). length l) (s3 .1 .0)) ∙ s3 .1 .1 .1 .0 ∙ refl)
-            room-newest ! tt κ-newest q-newest δ-newest (λ ν-newest9 δ-newest9.
+        (placingOf state p log newest m-versions) 0)) (writeAt (placingOf state p log newest m-versions) 1))
+        (writeAt (placingOf state p log newest m-versions) 2)) (sym (ap (λ (l : List ℕ). length l) (s7 .1 .0))
+        ∙ s7 .1 .1 .1 .0 ∙ sym (ap (λ (l : List ℕ). length l) (s5 .1 .0)) ∙ s5 .1 .1 .1 .0 ∙ sym
+        (ap (λ (l : List ℕ). length l) (s3 .1 .0)) ∙ s3 .1 .1 .1 .0 ∙ refl)
+        room-newest ! tt κ-newest q-newest δ-newest (λ ν-newest9 δ-newest9.
         move ! (3 ∷ 4 ∷ []) $
         lend-mut 𝓤 H A W T.the-row b-versions o-versions m-versions (linkOf (linkOf (linkOf versions
-            (linkBehind newest (length versions) (writeAt (placingOf state p log newest m-versions) 0))) (linkBehind
-            (makeNewest newest (writeAt (placingOf state p log newest m-versions) 0)) (length (linkOf versions
-            (linkBehind newest (length versions) (writeAt (placingOf state p log newest m-versions) 0)))) (writeAt
-            (placingOf state p log newest m-versions) 1))) (linkBehind (makeNewest (makeNewest newest (writeAt
-            (placingOf state p log newest m-versions) 0)) (writeAt (placingOf state p log newest m-versions) 1))
-            (length (linkOf (linkOf versions (linkBehind newest (length versions) (writeAt
-            (placingOf state p log newest m-versions) 0))) (linkBehind (makeNewest newest (writeAt
-            (placingOf state p log newest m-versions) 0)) (length (linkOf versions (linkBehind newest
-            (length versions) (writeAt (placingOf state p log newest m-versions) 0)))) (writeAt
-            (placingOf state p log newest m-versions) 1)))) (writeAt (placingOf state p log newest m-versions) 2)))
-            (sym (ap (λ (l : List Version). length l) (s7 .1 .1 .0)) ∙ s7 .1 .1 .1 .1 ∙ sym
-            (ap (λ (l : List Version). length l) (s5 .1 .1 .0)) ∙ s5 .1 .1 .1 .1 ∙ sym
-            (ap (λ (l : List Version). length l) (s3 .1 .1 .0)) ∙ s3 .1 .1 .1 .1 ∙ refl)
-            room-versions ! tt κ-versions q-versions δ-versions (λ ν-versions9 δ-versions9.
+        (linkBehind newest (length versions) (writeAt (placingOf state p log newest m-versions) 0))) (linkBehind
+        (makeNewest newest (writeAt (placingOf state p log newest m-versions) 0)) (length (linkOf versions
+        (linkBehind newest (length versions) (writeAt (placingOf state p log newest m-versions) 0)))) (writeAt
+        (placingOf state p log newest m-versions) 1))) (linkBehind (makeNewest (makeNewest newest (writeAt
+        (placingOf state p log newest m-versions) 0)) (writeAt (placingOf state p log newest m-versions) 1))
+        (length (linkOf (linkOf versions (linkBehind newest (length versions) (writeAt
+        (placingOf state p log newest m-versions) 0))) (linkBehind (makeNewest newest (writeAt
+        (placingOf state p log newest m-versions) 0)) (length (linkOf versions (linkBehind newest
+        (length versions) (writeAt (placingOf state p log newest m-versions) 0)))) (writeAt
+        (placingOf state p log newest m-versions) 1)))) (writeAt (placingOf state p log newest m-versions) 2)))
+        (sym (ap (λ (l : List Version). length l) (s7 .1 .1 .0)) ∙ s7 .1 .1 .1 .1 ∙ sym
+        (ap (λ (l : List Version). length l) (s5 .1 .1 .0)) ∙ s5 .1 .1 .1 .1 ∙ sym
+        (ap (λ (l : List Version). length l) (s3 .1 .1 .0)) ∙ s3 .1 .1 .1 .1 ∙ refl)
+        room-versions ! tt κ-versions q-versions δ-versions (λ ν-versions9 δ-versions9.
         move ! (3 ∷ 4 ∷ 0 ∷ 1 ∷ []) $
         use4 W (raw (PlaceWrite 𝓤 H A mem run .pre (to-place-write 𝓤 H A W mem run (makeNewest (makeNewest
-            (makeNewest newest (writeAt (placingOf state p log newest m-versions) 0)) (writeAt
-            (placingOf state p log newest m-versions) 1)) (writeAt (placingOf state p log newest m-versions) 2))
-            (linkOf (linkOf (linkOf versions (linkBehind newest (length versions) (writeAt
-            (placingOf state p log newest m-versions) 0))) (linkBehind (makeNewest newest (writeAt
-            (placingOf state p log newest m-versions) 0)) (length (linkOf versions (linkBehind newest
-            (length versions) (writeAt (placingOf state p log newest m-versions) 0)))) (writeAt
-            (placingOf state p log newest m-versions) 1))) (linkBehind (makeNewest (makeNewest newest (writeAt
-            (placingOf state p log newest m-versions) 0)) (writeAt (placingOf state p log newest m-versions) 1))
-            (length (linkOf (linkOf versions (linkBehind newest (length versions) (writeAt
-            (placingOf state p log newest m-versions) 0))) (linkBehind (makeNewest newest (writeAt
-            (placingOf state p log newest m-versions) 0)) (length (linkOf versions (linkBehind newest
-            (length versions) (writeAt (placingOf state p log newest m-versions) 0)))) (writeAt
-            (placingOf state p log newest m-versions) 1)))) (writeAt (placingOf state p log newest m-versions) 2)))
-            (writeAt (placingOf state p log newest m-versions) 3) b-newest o-newest m-newest b-versions o-versions
-            m-versions (ν-newest9 ∷ []) fullShare δ-newest9 (ν-versions9 ∷ []) fullShare δ-versions9)))
-            (place-write-goes 𝓤 H A W mem run (makeNewest (makeNewest (makeNewest newest (writeAt
-            (placingOf state p log newest m-versions) 0)) (writeAt (placingOf state p log newest m-versions) 1))
-            (writeAt (placingOf state p log newest m-versions) 2)) (linkOf (linkOf (linkOf versions
-            (linkBehind newest (length versions) (writeAt (placingOf state p log newest m-versions) 0))) (linkBehind
-            (makeNewest newest (writeAt (placingOf state p log newest m-versions) 0)) (length (linkOf versions
-            (linkBehind newest (length versions) (writeAt (placingOf state p log newest m-versions) 0)))) (writeAt
-            (placingOf state p log newest m-versions) 1))) (linkBehind (makeNewest (makeNewest newest (writeAt
-            (placingOf state p log newest m-versions) 0)) (writeAt (placingOf state p log newest m-versions) 1))
-            (length (linkOf (linkOf versions (linkBehind newest (length versions) (writeAt
-            (placingOf state p log newest m-versions) 0))) (linkBehind (makeNewest newest (writeAt
-            (placingOf state p log newest m-versions) 0)) (length (linkOf versions (linkBehind newest
-            (length versions) (writeAt (placingOf state p log newest m-versions) 0)))) (writeAt
-            (placingOf state p log newest m-versions) 1)))) (writeAt (placingOf state p log newest m-versions) 2)))
-            (writeAt (placingOf state p log newest m-versions) 3) b-newest o-newest m-newest b-versions o-versions
-            m-versions (ν-newest9 ∷ []) fullShare δ-newest9 (ν-versions9 ∷ []) fullShare δ-versions9 (s8 .1)) $
+        (makeNewest newest (writeAt (placingOf state p log newest m-versions) 0)) (writeAt
+        (placingOf state p log newest m-versions) 1)) (writeAt (placingOf state p log newest m-versions) 2))
+        (linkOf (linkOf (linkOf versions (linkBehind newest (length versions) (writeAt
+        (placingOf state p log newest m-versions) 0))) (linkBehind (makeNewest newest (writeAt
+        (placingOf state p log newest m-versions) 0)) (length (linkOf versions (linkBehind newest
+        (length versions) (writeAt (placingOf state p log newest m-versions) 0)))) (writeAt
+        (placingOf state p log newest m-versions) 1))) (linkBehind (makeNewest (makeNewest newest (writeAt
+        (placingOf state p log newest m-versions) 0)) (writeAt (placingOf state p log newest m-versions) 1))
+        (length (linkOf (linkOf versions (linkBehind newest (length versions) (writeAt
+        (placingOf state p log newest m-versions) 0))) (linkBehind (makeNewest newest (writeAt
+        (placingOf state p log newest m-versions) 0)) (length (linkOf versions (linkBehind newest
+        (length versions) (writeAt (placingOf state p log newest m-versions) 0)))) (writeAt
+        (placingOf state p log newest m-versions) 1)))) (writeAt (placingOf state p log newest m-versions) 2)))
+        (writeAt (placingOf state p log newest m-versions) 3) b-newest o-newest m-newest b-versions o-versions
+        m-versions (ν-newest9 ∷ []) fullShare δ-newest9 (ν-versions9 ∷ []) fullShare δ-versions9)))
+        (place-write-goes 𝓤 H A W mem run (makeNewest (makeNewest (makeNewest newest (writeAt
+        (placingOf state p log newest m-versions) 0)) (writeAt (placingOf state p log newest m-versions) 1))
+        (writeAt (placingOf state p log newest m-versions) 2)) (linkOf (linkOf (linkOf versions
+        (linkBehind newest (length versions) (writeAt (placingOf state p log newest m-versions) 0))) (linkBehind
+        (makeNewest newest (writeAt (placingOf state p log newest m-versions) 0)) (length (linkOf versions
+        (linkBehind newest (length versions) (writeAt (placingOf state p log newest m-versions) 0)))) (writeAt
+        (placingOf state p log newest m-versions) 1))) (linkBehind (makeNewest (makeNewest newest (writeAt
+        (placingOf state p log newest m-versions) 0)) (writeAt (placingOf state p log newest m-versions) 1))
+        (length (linkOf (linkOf versions (linkBehind newest (length versions) (writeAt
+        (placingOf state p log newest m-versions) 0))) (linkBehind (makeNewest newest (writeAt
+        (placingOf state p log newest m-versions) 0)) (length (linkOf versions (linkBehind newest
+        (length versions) (writeAt (placingOf state p log newest m-versions) 0)))) (writeAt
+        (placingOf state p log newest m-versions) 1)))) (writeAt (placingOf state p log newest m-versions) 2)))
+        (writeAt (placingOf state p log newest m-versions) 3) b-newest o-newest m-newest b-versions o-versions
+        m-versions (ν-newest9 ∷ []) fullShare δ-newest9 (ν-versions9 ∷ []) fullShare δ-versions9 (s8 .1)) $
         calls-at ! fm (PlaceWrite 𝓤 H A mem run) k-place-write (to-place-write 𝓤 H A W mem run (makeNewest
-            (makeNewest (makeNewest newest (writeAt (placingOf state p log newest m-versions) 0)) (writeAt
-            (placingOf state p log newest m-versions) 1)) (writeAt (placingOf state p log newest m-versions) 2))
-            (linkOf (linkOf (linkOf versions (linkBehind newest (length versions) (writeAt
-            (placingOf state p log newest m-versions) 0))) (linkBehind (makeNewest newest (writeAt
-            (placingOf state p log newest m-versions) 0)) (length (linkOf versions (linkBehind newest
-            (length versions) (writeAt (placingOf state p log newest m-versions) 0)))) (writeAt
-            (placingOf state p log newest m-versions) 1))) (linkBehind (makeNewest (makeNewest newest (writeAt
-            (placingOf state p log newest m-versions) 0)) (writeAt (placingOf state p log newest m-versions) 1))
-            (length (linkOf (linkOf versions (linkBehind newest (length versions) (writeAt
-            (placingOf state p log newest m-versions) 0))) (linkBehind (makeNewest newest (writeAt
-            (placingOf state p log newest m-versions) 0)) (length (linkOf versions (linkBehind newest
-            (length versions) (writeAt (placingOf state p log newest m-versions) 0)))) (writeAt
-            (placingOf state p log newest m-versions) 1)))) (writeAt (placingOf state p log newest m-versions) 2)))
-            (writeAt (placingOf state p log newest m-versions) 3) b-newest o-newest m-newest b-versions o-versions
-            m-versions (ν-newest9 ∷ []) fullShare δ-newest9 (ν-versions9 ∷ []) fullShare δ-versions9) (and-then !
-            (load ! (from ! (stop !)) (look ! 9 refl)) (and-then ! (load ! (from ! (stop !)) (look ! 5 refl))
-            (and-then ! (load ! (from ! (stop !)) (look ! 45 refl)) (no-more !)))) (λ u9.
+        (makeNewest (makeNewest newest (writeAt (placingOf state p log newest m-versions) 0)) (writeAt
+        (placingOf state p log newest m-versions) 1)) (writeAt (placingOf state p log newest m-versions) 2))
+        (linkOf (linkOf (linkOf versions (linkBehind newest (length versions) (writeAt
+        (placingOf state p log newest m-versions) 0))) (linkBehind (makeNewest newest (writeAt
+        (placingOf state p log newest m-versions) 0)) (length (linkOf versions (linkBehind newest
+        (length versions) (writeAt (placingOf state p log newest m-versions) 0)))) (writeAt
+        (placingOf state p log newest m-versions) 1))) (linkBehind (makeNewest (makeNewest newest (writeAt
+        (placingOf state p log newest m-versions) 0)) (writeAt (placingOf state p log newest m-versions) 1))
+        (length (linkOf (linkOf versions (linkBehind newest (length versions) (writeAt
+        (placingOf state p log newest m-versions) 0))) (linkBehind (makeNewest newest (writeAt
+        (placingOf state p log newest m-versions) 0)) (length (linkOf versions (linkBehind newest
+        (length versions) (writeAt (placingOf state p log newest m-versions) 0)))) (writeAt
+        (placingOf state p log newest m-versions) 1)))) (writeAt (placingOf state p log newest m-versions) 2)))
+        (writeAt (placingOf state p log newest m-versions) 3) b-newest o-newest m-newest b-versions o-versions
+        m-versions (ν-newest9 ∷ []) fullShare δ-newest9 (ν-versions9 ∷ []) fullShare δ-versions9) (and-then !
+        (load ! (from ! (stop !)) (look ! 9 refl)) (and-then ! (load ! (from ! (stop !)) (look ! 5 refl))
+        (and-then ! (load ! (from ! (stop !)) (look ! 45 refl)) (no-more !)))) (λ u9.
         use1 W (later (some (λ (x : (List ℕ) × (List Version)). given (place-write-said 𝓤 H A W mem run (makeNewest
-            (makeNewest (makeNewest newest (writeAt (placingOf state p log newest m-versions) 0)) (writeAt
-            (placingOf state p log newest m-versions) 1)) (writeAt (placingOf state p log newest m-versions) 2))
-            (linkOf (linkOf (linkOf versions (linkBehind newest (length versions) (writeAt
-            (placingOf state p log newest m-versions) 0))) (linkBehind (makeNewest newest (writeAt
-            (placingOf state p log newest m-versions) 0)) (length (linkOf versions (linkBehind newest
-            (length versions) (writeAt (placingOf state p log newest m-versions) 0)))) (writeAt
-            (placingOf state p log newest m-versions) 1))) (linkBehind (makeNewest (makeNewest newest (writeAt
-            (placingOf state p log newest m-versions) 0)) (writeAt (placingOf state p log newest m-versions) 1))
-            (length (linkOf (linkOf versions (linkBehind newest (length versions) (writeAt
-            (placingOf state p log newest m-versions) 0))) (linkBehind (makeNewest newest (writeAt
-            (placingOf state p log newest m-versions) 0)) (length (linkOf versions (linkBehind newest
-            (length versions) (writeAt (placingOf state p log newest m-versions) 0)))) (writeAt
-            (placingOf state p log newest m-versions) 1)))) (writeAt (placingOf state p log newest m-versions) 2)))
-            (writeAt (placingOf state p log newest m-versions) 3) b-newest o-newest m-newest b-versions o-versions
-            m-versions (ν-newest9 ∷ []) fullShare δ-newest9 (ν-versions9 ∷ []) fullShare δ-versions9 u9 x)
-            (‵ (flft (ν-newest9 ∷ []) fullShare) ⊛ ‵ (finally u16 δ-newest9 (x .0)) ⊛ ‵ (flft (ν-versions9 ∷ [])
-            fullShare) ⊛ ‵ (finally T.the-row δ-versions9 (x .1)))))) (place-write-gives 𝓤 H A W mem run (makeNewest
-            (makeNewest (makeNewest newest (writeAt (placingOf state p log newest m-versions) 0)) (writeAt
-            (placingOf state p log newest m-versions) 1)) (writeAt (placingOf state p log newest m-versions) 2))
-            (linkOf (linkOf (linkOf versions (linkBehind newest (length versions) (writeAt
-            (placingOf state p log newest m-versions) 0))) (linkBehind (makeNewest newest (writeAt
-            (placingOf state p log newest m-versions) 0)) (length (linkOf versions (linkBehind newest
-            (length versions) (writeAt (placingOf state p log newest m-versions) 0)))) (writeAt
-            (placingOf state p log newest m-versions) 1))) (linkBehind (makeNewest (makeNewest newest (writeAt
-            (placingOf state p log newest m-versions) 0)) (writeAt (placingOf state p log newest m-versions) 1))
-            (length (linkOf (linkOf versions (linkBehind newest (length versions) (writeAt
-            (placingOf state p log newest m-versions) 0))) (linkBehind (makeNewest newest (writeAt
-            (placingOf state p log newest m-versions) 0)) (length (linkOf versions (linkBehind newest
-            (length versions) (writeAt (placingOf state p log newest m-versions) 0)))) (writeAt
-            (placingOf state p log newest m-versions) 1)))) (writeAt (placingOf state p log newest m-versions) 2)))
-            (writeAt (placingOf state p log newest m-versions) 3) b-newest o-newest m-newest b-versions o-versions
-            m-versions (ν-newest9 ∷ []) fullShare δ-newest9 (ν-versions9 ∷ []) fullShare δ-versions9 u9) $
-            await ! tt $ pick ! (λ x9. learn ! (λ s9.
+        (makeNewest (makeNewest newest (writeAt (placingOf state p log newest m-versions) 0)) (writeAt
+        (placingOf state p log newest m-versions) 1)) (writeAt (placingOf state p log newest m-versions) 2))
+        (linkOf (linkOf (linkOf versions (linkBehind newest (length versions) (writeAt
+        (placingOf state p log newest m-versions) 0))) (linkBehind (makeNewest newest (writeAt
+        (placingOf state p log newest m-versions) 0)) (length (linkOf versions (linkBehind newest
+        (length versions) (writeAt (placingOf state p log newest m-versions) 0)))) (writeAt
+        (placingOf state p log newest m-versions) 1))) (linkBehind (makeNewest (makeNewest newest (writeAt
+        (placingOf state p log newest m-versions) 0)) (writeAt (placingOf state p log newest m-versions) 1))
+        (length (linkOf (linkOf versions (linkBehind newest (length versions) (writeAt
+        (placingOf state p log newest m-versions) 0))) (linkBehind (makeNewest newest (writeAt
+        (placingOf state p log newest m-versions) 0)) (length (linkOf versions (linkBehind newest
+        (length versions) (writeAt (placingOf state p log newest m-versions) 0)))) (writeAt
+        (placingOf state p log newest m-versions) 1)))) (writeAt (placingOf state p log newest m-versions) 2)))
+        (writeAt (placingOf state p log newest m-versions) 3) b-newest o-newest m-newest b-versions o-versions
+        m-versions (ν-newest9 ∷ []) fullShare δ-newest9 (ν-versions9 ∷ []) fullShare δ-versions9 u9 x)
+        (‵ (flft (ν-newest9 ∷ []) fullShare) ⊛ ‵ (finally u16 δ-newest9 (x .0)) ⊛ ‵ (flft (ν-versions9 ∷ [])
+        fullShare) ⊛ ‵ (finally T.the-row δ-versions9 (x .1)))))) (place-write-gives 𝓤 H A W mem run (makeNewest
+        (makeNewest (makeNewest newest (writeAt (placingOf state p log newest m-versions) 0)) (writeAt
+        (placingOf state p log newest m-versions) 1)) (writeAt (placingOf state p log newest m-versions) 2))
+        (linkOf (linkOf (linkOf versions (linkBehind newest (length versions) (writeAt
+        (placingOf state p log newest m-versions) 0))) (linkBehind (makeNewest newest (writeAt
+        (placingOf state p log newest m-versions) 0)) (length (linkOf versions (linkBehind newest
+        (length versions) (writeAt (placingOf state p log newest m-versions) 0)))) (writeAt
+        (placingOf state p log newest m-versions) 1))) (linkBehind (makeNewest (makeNewest newest (writeAt
+        (placingOf state p log newest m-versions) 0)) (writeAt (placingOf state p log newest m-versions) 1))
+        (length (linkOf (linkOf versions (linkBehind newest (length versions) (writeAt
+        (placingOf state p log newest m-versions) 0))) (linkBehind (makeNewest newest (writeAt
+        (placingOf state p log newest m-versions) 0)) (length (linkOf versions (linkBehind newest
+        (length versions) (writeAt (placingOf state p log newest m-versions) 0)))) (writeAt
+        (placingOf state p log newest m-versions) 1)))) (writeAt (placingOf state p log newest m-versions) 2)))
+        (writeAt (placingOf state p log newest m-versions) 3) b-newest o-newest m-newest b-versions o-versions
+        m-versions (ν-newest9 ∷ []) fullShare δ-newest9 (ν-versions9 ∷ []) fullShare δ-versions9 u9) $
+        await ! tt $ pick ! (λ x9. learn ! (λ s9.
         split ! $
         move ! (1 ∷ []) $
         split ! $
@@ -713,44 +770,44 @@ module _ {M : Type 1} (𝓤 : URA M) (H : Heap 𝓤) (A : Atoms 𝓤) (W : Given
         move ! (1 ∷ []) $
         move ! (3 ∷ 2 ∷ 5 ∷ []) $
         back-mut 𝓤 H A W u16 b-newest o-newest m-newest (makeNewest (makeNewest (makeNewest newest (writeAt
-            (placingOf state p log newest m-versions) 0)) (writeAt (placingOf state p log newest m-versions) 1))
-            (writeAt (placingOf state p log newest m-versions) 2)) (sym (ap (λ (l : List ℕ). length l) (s7 .1 .0))
-            ∙ s7 .1 .1 .1 .0 ∙ sym (ap (λ (l : List ℕ). length l) (s5 .1 .0)) ∙ s5 .1 .1 .1 .0 ∙ sym
-            (ap (λ (l : List ℕ). length l) (s3 .1 .0)) ∙ s3 .1 .1 .1 .0 ∙ refl)
-            room-newest ! tt κ-newest q-newest δ-newest ν-newest9 δ-newest9 (x9 .0) (s9 .1 .1 .1 .0) (
+        (placingOf state p log newest m-versions) 0)) (writeAt (placingOf state p log newest m-versions) 1))
+        (writeAt (placingOf state p log newest m-versions) 2)) (sym (ap (λ (l : List ℕ). length l) (s7 .1 .0))
+        ∙ s7 .1 .1 .1 .0 ∙ sym (ap (λ (l : List ℕ). length l) (s5 .1 .0)) ∙ s5 .1 .1 .1 .0 ∙ sym
+        (ap (λ (l : List ℕ). length l) (s3 .1 .0)) ∙ s3 .1 .1 .1 .0 ∙ refl)
+        room-newest ! tt κ-newest q-newest δ-newest ν-newest9 δ-newest9 (x9 .0) (s9 .1 .1 .1 .0) (
         rewrite ! 0 (λ (l : List ℕ). ‵ (holds u16 b-newest o-newest m-newest κ-newest δ-newest l)) (s9 .1 .0) refl $
         move ! (3 ∷ 2 ∷ 4 ∷ []) $
         back-mut 𝓤 H A W T.the-row b-versions o-versions m-versions (linkOf (linkOf (linkOf versions
-            (linkBehind newest (length versions) (writeAt (placingOf state p log newest m-versions) 0))) (linkBehind
-            (makeNewest newest (writeAt (placingOf state p log newest m-versions) 0)) (length (linkOf versions
-            (linkBehind newest (length versions) (writeAt (placingOf state p log newest m-versions) 0)))) (writeAt
-            (placingOf state p log newest m-versions) 1))) (linkBehind (makeNewest (makeNewest newest (writeAt
-            (placingOf state p log newest m-versions) 0)) (writeAt (placingOf state p log newest m-versions) 1))
-            (length (linkOf (linkOf versions (linkBehind newest (length versions) (writeAt
-            (placingOf state p log newest m-versions) 0))) (linkBehind (makeNewest newest (writeAt
-            (placingOf state p log newest m-versions) 0)) (length (linkOf versions (linkBehind newest
-            (length versions) (writeAt (placingOf state p log newest m-versions) 0)))) (writeAt
-            (placingOf state p log newest m-versions) 1)))) (writeAt (placingOf state p log newest m-versions) 2)))
-            (sym (ap (λ (l : List Version). length l) (s7 .1 .1 .0)) ∙ s7 .1 .1 .1 .1 ∙ sym
-            (ap (λ (l : List Version). length l) (s5 .1 .1 .0)) ∙ s5 .1 .1 .1 .1 ∙ sym
-            (ap (λ (l : List Version). length l) (s3 .1 .1 .0)) ∙ s3 .1 .1 .1 .1 ∙ refl)
-            room-versions ! tt κ-versions q-versions δ-versions ν-versions9 δ-versions9 (x9 .1) (s9 .1 .1 .1 .1) (
+        (linkBehind newest (length versions) (writeAt (placingOf state p log newest m-versions) 0))) (linkBehind
+        (makeNewest newest (writeAt (placingOf state p log newest m-versions) 0)) (length (linkOf versions
+        (linkBehind newest (length versions) (writeAt (placingOf state p log newest m-versions) 0)))) (writeAt
+        (placingOf state p log newest m-versions) 1))) (linkBehind (makeNewest (makeNewest newest (writeAt
+        (placingOf state p log newest m-versions) 0)) (writeAt (placingOf state p log newest m-versions) 1))
+        (length (linkOf (linkOf versions (linkBehind newest (length versions) (writeAt
+        (placingOf state p log newest m-versions) 0))) (linkBehind (makeNewest newest (writeAt
+        (placingOf state p log newest m-versions) 0)) (length (linkOf versions (linkBehind newest
+        (length versions) (writeAt (placingOf state p log newest m-versions) 0)))) (writeAt
+        (placingOf state p log newest m-versions) 1)))) (writeAt (placingOf state p log newest m-versions) 2)))
+        (sym (ap (λ (l : List Version). length l) (s7 .1 .1 .0)) ∙ s7 .1 .1 .1 .1 ∙ sym
+        (ap (λ (l : List Version). length l) (s5 .1 .1 .0)) ∙ s5 .1 .1 .1 .1 ∙ sym
+        (ap (λ (l : List Version). length l) (s3 .1 .1 .0)) ∙ s3 .1 .1 .1 .1 ∙ refl)
+        room-versions ! tt κ-versions q-versions δ-versions ν-versions9 δ-versions9 (x9 .1) (s9 .1 .1 .1 .1) (
         rewrite ! 0 (λ (l : List Version). ‵
-            (holds T.the-row b-versions o-versions m-versions κ-versions δ-versions l)) (s9 .1 .1 .0) refl $
+        (holds T.the-row b-versions o-versions m-versions κ-versions δ-versions l)) (s9 .1 .1 .0) refl $
         land ! (from ! (stop !)) (store ! 38 refl (unit-typed u9 (s9 .0))) $
         use0 W (raw (PlacedCall 𝓤 H A mem run .pre (to-placed 𝓤 H A W mem run state p
-            (placingOf state p log newest m-versions)))) (placed-goes 𝓤 H A W mem run state p
-            (placingOf state p log newest m-versions) g-state g-p (s1 .1)) $
+        (placingOf state p log newest m-versions)))) (placed-goes 𝓤 H A W mem run state p
+        (placingOf state p log newest m-versions) g-state g-p (s1 .1)) $
         calls-at ! fm (PlacedCall 𝓤 H A mem run) k-placed (to-placed 𝓤 H A W mem run state p
-            (placingOf state p log newest m-versions)) (and-then ! (load ! (from ! (stop !)) (look ! 65 refl))
-            (and-then ! (load ! (from ! (stop !)) (look ! 63 refl)) (and-then ! (load ! (from ! (stop !))
-            (look ! 55 refl)) (no-more !)))) (λ u10.
+        (placingOf state p log newest m-versions)) (and-then ! (load ! (from ! (stop !)) (look ! 65 refl))
+        (and-then ! (load ! (from ! (stop !)) (look ! 63 refl)) (and-then ! (load ! (from ! (stop !))
+        (look ! 55 refl)) (no-more !)))) (λ u10.
         use1 W (later (some (λ (x : Unit {0}). given (placed-said 𝓤 H A W mem run state p
-            (placingOf state p log newest m-versions) u10 x) (raw (emp 𝓤))))) (placed-gives 𝓤 H A W mem run state p
-            (placingOf state p log newest m-versions) u10) $ await ! tt $ pick ! (λ x10. learn ! (λ s10.
+        (placingOf state p log newest m-versions) u10 x) (raw (emp 𝓤))))) (placed-gives 𝓤 H A W mem run state p
+        (placingOf state p log newest m-versions) u10) $ await ! tt $ pick ! (λ x10. learn ! (λ s10.
         drop ! $
         land ! (from ! (stop !)) (init ! 66 refl (Value.typed Z.the-type Z′.the-laws 𝓤 H A W (placedAs state p
-            (placingOf state p log newest m-versions)) u10 (s10))) $
+        (placingOf state p log newest m-versions)) u10 (s10))) $
         rewrite ! 66 (λ (z : Val). ‵ (fat fullShare (τ 0) l-0 0 z)) (s10 .0) refl $
         returns ! (look ! 66 refl) $
         forget ! 66 refl $
@@ -849,42 +906,42 @@ module _ {M : Type 1} (𝓤 : URA M) (H : Heap 𝓤) (A : Atoms 𝓤) (W : Given
         free0 ! $
         move ! (5 ∷ 4 ∷ 2 ∷ 3 ∷ 0 ∷ 1 ∷ []) $
         by ! (exits (placedAs state p (placingOf state p log newest m-versions)) (makeNewest (makeNewest (makeNewest
-            (makeNewest newest (writeAt (placingOf state p log newest m-versions) 0)) (writeAt
-            (placingOf state p log newest m-versions) 1)) (writeAt (placingOf state p log newest m-versions) 2))
-            (writeAt (placingOf state p log newest m-versions) 3)) (linkOf (linkOf (linkOf (linkOf versions
-            (linkBehind newest (length versions) (writeAt (placingOf state p log newest m-versions) 0))) (linkBehind
-            (makeNewest newest (writeAt (placingOf state p log newest m-versions) 0)) (length (linkOf versions
-            (linkBehind newest (length versions) (writeAt (placingOf state p log newest m-versions) 0)))) (writeAt
-            (placingOf state p log newest m-versions) 1))) (linkBehind (makeNewest (makeNewest newest (writeAt
-            (placingOf state p log newest m-versions) 0)) (writeAt (placingOf state p log newest m-versions) 1))
-            (length (linkOf (linkOf versions (linkBehind newest (length versions) (writeAt
-            (placingOf state p log newest m-versions) 0))) (linkBehind (makeNewest newest (writeAt
-            (placingOf state p log newest m-versions) 0)) (length (linkOf versions (linkBehind newest
-            (length versions) (writeAt (placingOf state p log newest m-versions) 0)))) (writeAt
-            (placingOf state p log newest m-versions) 1)))) (writeAt (placingOf state p log newest m-versions) 2)))
-            (linkBehind (makeNewest (makeNewest (makeNewest newest (writeAt (placingOf state p log newest m-versions)
-            0)) (writeAt (placingOf state p log newest m-versions) 1)) (writeAt
-            (placingOf state p log newest m-versions) 2)) (length (linkOf (linkOf (linkOf versions (linkBehind newest
-            (length versions) (writeAt (placingOf state p log newest m-versions) 0))) (linkBehind (makeNewest newest
-            (writeAt (placingOf state p log newest m-versions) 0)) (length (linkOf versions (linkBehind newest
-            (length versions) (writeAt (placingOf state p log newest m-versions) 0)))) (writeAt
-            (placingOf state p log newest m-versions) 1))) (linkBehind (makeNewest (makeNewest newest (writeAt
-            (placingOf state p log newest m-versions) 0)) (writeAt (placingOf state p log newest m-versions) 1))
-            (length (linkOf (linkOf versions (linkBehind newest (length versions) (writeAt
-            (placingOf state p log newest m-versions) 0))) (linkBehind (makeNewest newest (writeAt
-            (placingOf state p log newest m-versions) 0)) (length (linkOf versions (linkBehind newest
-            (length versions) (writeAt (placingOf state p log newest m-versions) 0)))) (writeAt
-            (placingOf state p log newest m-versions) 1)))) (writeAt (placingOf state p log newest m-versions) 2))))
-            (writeAt (placingOf state p log newest m-versions) 3))) (place-stepped state p log newest versions)
-            (place-newest state p log newest versions) (place-versions state p log newest versions)
-            (sym (ap (λ (l : List ℕ). length l) (s9 .1 .0)) ∙ s9 .1 .1 .1 .0 ∙ sym (ap (λ (l : List ℕ). length l)
-            (s7 .1 .0)) ∙ s7 .1 .1 .1 .0 ∙ sym (ap (λ (l : List ℕ). length l) (s5 .1 .0)) ∙ s5 .1 .1 .1 .0 ∙ sym
-            (ap (λ (l : List ℕ). length l) (s3 .1 .0)) ∙ s3 .1 .1 .1 .0 ∙ refl)
-            (sym (ap (λ (l : List Version). length l) (s9 .1 .1 .0)) ∙ s9 .1 .1 .1 .1 ∙ sym
-            (ap (λ (l : List Version). length l) (s7 .1 .1 .0)) ∙ s7 .1 .1 .1 .1 ∙ sym
-            (ap (λ (l : List Version). length l) (s5 .1 .1 .0)) ∙ s5 .1 .1 .1 .1 ∙ sym
-            (ap (λ (l : List Version). length l) (s3 .1 .1 .0)) ∙ s3 .1 .1 .1 .1 ∙ refl)
-            (s10 .1)))))))))))))))))))))))))))))))))))))))))))))))))))))))))))))))))))))))))))))))))
+        (makeNewest newest (writeAt (placingOf state p log newest m-versions) 0)) (writeAt
+        (placingOf state p log newest m-versions) 1)) (writeAt (placingOf state p log newest m-versions) 2))
+        (writeAt (placingOf state p log newest m-versions) 3)) (linkOf (linkOf (linkOf (linkOf versions
+        (linkBehind newest (length versions) (writeAt (placingOf state p log newest m-versions) 0))) (linkBehind
+        (makeNewest newest (writeAt (placingOf state p log newest m-versions) 0)) (length (linkOf versions
+        (linkBehind newest (length versions) (writeAt (placingOf state p log newest m-versions) 0)))) (writeAt
+        (placingOf state p log newest m-versions) 1))) (linkBehind (makeNewest (makeNewest newest (writeAt
+        (placingOf state p log newest m-versions) 0)) (writeAt (placingOf state p log newest m-versions) 1))
+        (length (linkOf (linkOf versions (linkBehind newest (length versions) (writeAt
+        (placingOf state p log newest m-versions) 0))) (linkBehind (makeNewest newest (writeAt
+        (placingOf state p log newest m-versions) 0)) (length (linkOf versions (linkBehind newest
+        (length versions) (writeAt (placingOf state p log newest m-versions) 0)))) (writeAt
+        (placingOf state p log newest m-versions) 1)))) (writeAt (placingOf state p log newest m-versions) 2)))
+        (linkBehind (makeNewest (makeNewest (makeNewest newest (writeAt (placingOf state p log newest m-versions)
+        0)) (writeAt (placingOf state p log newest m-versions) 1)) (writeAt
+        (placingOf state p log newest m-versions) 2)) (length (linkOf (linkOf (linkOf versions (linkBehind newest
+        (length versions) (writeAt (placingOf state p log newest m-versions) 0))) (linkBehind (makeNewest newest
+        (writeAt (placingOf state p log newest m-versions) 0)) (length (linkOf versions (linkBehind newest
+        (length versions) (writeAt (placingOf state p log newest m-versions) 0)))) (writeAt
+        (placingOf state p log newest m-versions) 1))) (linkBehind (makeNewest (makeNewest newest (writeAt
+        (placingOf state p log newest m-versions) 0)) (writeAt (placingOf state p log newest m-versions) 1))
+        (length (linkOf (linkOf versions (linkBehind newest (length versions) (writeAt
+        (placingOf state p log newest m-versions) 0))) (linkBehind (makeNewest newest (writeAt
+        (placingOf state p log newest m-versions) 0)) (length (linkOf versions (linkBehind newest
+        (length versions) (writeAt (placingOf state p log newest m-versions) 0)))) (writeAt
+        (placingOf state p log newest m-versions) 1)))) (writeAt (placingOf state p log newest m-versions) 2))))
+        (writeAt (placingOf state p log newest m-versions) 3))) (place-stepped state p log newest versions)
+        (place-newest state p log newest versions) (place-versions state p log newest versions)
+        (sym (ap (λ (l : List ℕ). length l) (s9 .1 .0)) ∙ s9 .1 .1 .1 .0 ∙ sym (ap (λ (l : List ℕ). length l)
+        (s7 .1 .0)) ∙ s7 .1 .1 .1 .0 ∙ sym (ap (λ (l : List ℕ). length l) (s5 .1 .0)) ∙ s5 .1 .1 .1 .0 ∙ sym
+        (ap (λ (l : List ℕ). length l) (s3 .1 .0)) ∙ s3 .1 .1 .1 .0 ∙ refl)
+        (sym (ap (λ (l : List Version). length l) (s9 .1 .1 .0)) ∙ s9 .1 .1 .1 .1 ∙ sym
+        (ap (λ (l : List Version). length l) (s7 .1 .1 .0)) ∙ s7 .1 .1 .1 .1 ∙ sym
+        (ap (λ (l : List Version). length l) (s5 .1 .1 .0)) ∙ s5 .1 .1 .1 .1 ∙ sym
+        (ap (λ (l : List Version). length l) (s3 .1 .1 .0)) ∙ s3 .1 .1 .1 .1 ∙ refl)
+        (s10 .1)))))))))))))))))))))))))))))))))))))))))))))))))))))))))))))))))))))))))))))))))
 
 module _ {M : Type 1} (𝓤 : URA M) (H : Heap 𝓤) (A : Atoms 𝓤) (W : Given 𝓤 H A) (mem : Memory
     → SProp 𝓤) (run : Routine → Fun 𝓤) where
@@ -894,15 +951,26 @@ module _ {M : Type 1} (𝓤 : URA M) (H : Heap 𝓤) (A : Atoms 𝓤) (W : Given
       code.function) (own.clauses 𝓤 H A mem run)
   own-walks 𝓣 k-placing k-write-at k-place-write k-placed =
       walked 𝓤 H A own.ended stayed (own.clauses 𝓤 H A mem run) (WpFn 𝓤 H (𝓣 .C) (𝓣 .Λ) code.function) (λ κs.
-          (LL.vals S.the-type S′.the-laws, (uint-vals w64, (slice-vals, (slice-vals, (slice-vals, tt)))))) (λ κs.
-          (LL.tells S.the-type S′.the-laws, (uint-tells w64, (shr-slice-tells (named 0) (κs .0) u8, (mut-slice-tells
-          (named 1) (κs .1 .0) u16, (mut-slice-tells (named 2) (κs .1 .1 .0) T.the-row, tt))))))
-          (λ κs qs bounds a g are. via 𝓤 _ (fst∗ 𝓤 _ (emp 𝓤)) (walk 𝓤 H A W mem run (κs .0) (κs .1 .0) (κs .1 .1 .0)
-          bounds (qs .0) (qs .1 .0) (qs .1 .1 .0) (a .0) (a .1 .0) (a .1 .1 .0 .ptr .0) (a .1 .1 .0 .ptr .1)
-          (a .1 .1 .0 .name) (a .1 .1 .0 .now) (a .1 .1 .1 .0 .ptr .0) (a .1 .1 .1 .0 .ptr .1) (a .1 .1 .1 .0 .name)
-          (a .1 .1 .1 .0 .now) (a .1 .1 .1 .1 .0 .ptr .0) (a .1 .1 .1 .1 .0 .ptr .1) (a .1 .1 .1 .1 .0 .name)
-          (a .1 .1 .1 .1 .0 .now) (are .0) (are .1 .0 .1) (are .1 .1 .0 .0 .1) (are .1 .1 .1 .0 .0 .1)
-          (are .1 .1 .1 .1 .0 .0 .1) 𝓣 k-placing k-write-at k-place-write k-placed))
+      (LL.vals S.the-type S′.the-laws, (uint-vals w64, (slice-vals, (slice-vals, (slice-vals, tt)))))) (λ κs. (
+        LL.tells S.the-type S′.the-laws,
+        (
+          uint-tells w64,
+          (
+            shr-slice-tells (named 0) (κs .0) u8,
+            (
+              mut-slice-tells
+                  (named 1) (κs .1 .0) u16,
+              (mut-slice-tells (named 2) (κs .1 .1 .0) T.the-row, tt),
+            ),
+          ),
+        ),
+      ))
+      (λ κs qs bounds a g are. via 𝓤 _ (fst∗ 𝓤 _ (emp 𝓤)) (walk 𝓤 H A W mem run (κs .0) (κs .1 .0) (κs .1 .1 .0)
+      bounds (qs .0) (qs .1 .0) (qs .1 .1 .0) (a .0) (a .1 .0) (a .1 .1 .0 .ptr .0) (a .1 .1 .0 .ptr .1)
+      (a .1 .1 .0 .name) (a .1 .1 .0 .now) (a .1 .1 .1 .0 .ptr .0) (a .1 .1 .1 .0 .ptr .1) (a .1 .1 .1 .0 .name)
+      (a .1 .1 .1 .0 .now) (a .1 .1 .1 .1 .0 .ptr .0) (a .1 .1 .1 .1 .0 .ptr .1) (a .1 .1 .1 .1 .0 .name)
+      (a .1 .1 .1 .1 .0 .now) (are .0) (are .1 .0 .1) (are .1 .1 .0 .0 .1) (are .1 .1 .1 .0 .0 .1)
+      (are .1 .1 .1 .1 .0 .0 .1) 𝓣 k-placing k-write-at k-place-write k-placed))
 
 own-meets : {M : Type 1} (𝓤 : URA M) (H : Heap 𝓤) (A : Atoms 𝓤) → Given 𝓤 H A → (mem : Memory
     → SProp 𝓤) (run : Routine → Fun 𝓤) (𝓣 : Tables 𝓤 H) → Triple 𝓤 (𝓣 .C #placing) (PlacingCall 𝓤 H A mem run)
@@ -910,11 +978,26 @@ own-meets : {M : Type 1} (𝓤 : URA M) (H : Heap 𝓤) (A : Atoms 𝓤) → Giv
     → Triple 𝓤 (𝓣 .C #placed) (PlacedCall 𝓤 H A mem run) → Meets 𝓤 H A own.signature (WpFn 𝓤 H (𝓣 .C) (𝓣 .Λ)
     code.function) (own.spec 𝓤 H A mem run)
 own-meets 𝓤 H A W mem run 𝓣 k-placing k-write-at k-place-write k-placed =
-    walk-meets 𝓤 H A own.ended stayed W (goes-none 𝓤 H A W 3 (λ _. S.the-row) yes (λ κs x f.
-        refl), (goes-none 𝓤 H A W 3 (λ _. usize) yes (λ κs x f. refl), (goes-none-slice 𝓤 H A W 3 (0 ∷ []) tt (plain
-        (λ _. u8)) yes, (goes-slice 𝓤 H A W 3 1 tt (plain (λ _. u16)), (goes-slice 𝓤 H A W 3 2 tt (plain (λ _.
-        T.the-row)), tt))))) (own.clauses 𝓤 H A mem run) (WpFn 𝓤 H (𝓣 .C) (𝓣 .Λ) code.function) (WpFn-mono 𝓤 H
-        (W .laws) 𝓣 code.function) (own-walks 𝓤 H A W mem run 𝓣 k-placing k-write-at k-place-write k-placed)
+    walk-meets 𝓤 H A own.ended stayed W (
+      goes-none 𝓤 H A W 3 (λ _. S.the-row) yes (λ κs x f.
+          refl),
+      (
+        goes-none 𝓤 H A W 3 (λ _. usize) yes (λ κs x f. refl),
+        (
+          goes-none-slice 𝓤 H A W 3 (0 ∷ []) tt (plain
+              (λ _. u8)) yes,
+          (
+            goes-slice 𝓤 H A W 3 1 tt (plain (λ _. u16)),
+            (
+              goes-slice 𝓤 H A W 3 2 tt (plain (λ _.
+                  T.the-row)),
+              tt,
+            ),
+          ),
+        ),
+      ),
+    ) (own.clauses 𝓤 H A mem run) (WpFn 𝓤 H (𝓣 .C) (𝓣 .Λ) code.function) (WpFn-mono 𝓤 H
+    (W .laws) 𝓣 code.function) (own-walks 𝓤 H A W mem run 𝓣 k-placing k-write-at k-place-write k-placed)
 
 pub place-spec : {M : Type 1} → stated.statement M
 unfolding code.routine tablesOf
@@ -923,10 +1006,10 @@ place-spec 𝓤 H 𝓜 𝓖 𝓡 =
     (tables 𝓤 H 𝓜 𝓡 code.env .C) (tables 𝓤 H 𝓜 𝓡 code.env .Λ) #own code.function (code.unfolded 𝓤 H 𝓜 𝓡)
     (own-meets 𝓤 H (𝓖 .A) (givenOf 𝓤 H 𝓜 𝓖) (𝓜 .mem) (𝓡 .run) (tablesOf 𝓤 H 𝓜 (tables 𝓤 H 𝓜 𝓡 code.env))
     (cited 𝓤 H (PlacingCall 𝓤 H (𝓖 .A) (𝓜 .mem) (𝓡 .run)) 𝓜 𝓡 code.env #placing placing-def.routine
-        code.calls-engine·State·placing (placing-thm.met 𝓤 H 𝓜 𝓖 𝓡))
+    code.calls-engine·State·placing (placing-thm.met 𝓤 H 𝓜 𝓖 𝓡))
     (cited 𝓤 H (WriteAt 𝓤 H (𝓖 .A) (𝓜 .mem) (𝓡 .run)) 𝓜 𝓡 code.env #write-at write-at-def.routine
-        code.calls-engine·place·write-at (write-at-thm.met 𝓤 H 𝓜 𝓖 𝓡))
+    code.calls-engine·place·write-at (write-at-thm.met 𝓤 H 𝓜 𝓖 𝓡))
     (cited 𝓤 H (PlaceWrite 𝓤 H (𝓖 .A) (𝓜 .mem) (𝓡 .run)) 𝓜 𝓡 code.env #place-write place-write-def.routine
-        code.calls-engine·place·place-write (place-write-thm.met 𝓤 H 𝓜 𝓖 𝓡))
+    code.calls-engine·place·place-write (place-write-thm.met 𝓤 H 𝓜 𝓖 𝓡))
     (cited 𝓤 H (PlacedCall 𝓤 H (𝓖 .A) (𝓜 .mem) (𝓡 .run))
-        𝓜 𝓡 code.env #placed placed-def.routine code.calls-engine·State·placed (placed-thm.met 𝓤 H 𝓜 𝓖 𝓡)))
+    𝓜 𝓡 code.env #placed placed-def.routine code.calls-engine·State·placed (placed-thm.met 𝓤 H 𝓜 𝓖 𝓡)))

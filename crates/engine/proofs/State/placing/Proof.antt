@@ -128,7 +128,7 @@ planned-requires c κs =
     let most = placed-most (args .self) ranged (args .p) (omega (arith, ranged .few-partitions, there)) in
     let mine = rw (← c .before .before .before .before .before .before .before .placed-by .ensures) at most in (
       ranged .some-partition,
-      (omega (arith, ranged .positions-last, mine), omega (arith, ranged .few-transactions, mine))
+      (omega (arith, ranged .positions-last, mine), omega (arith, ranged .few-transactions, mine)),
     )
 
 -- src/place.rt:153:5

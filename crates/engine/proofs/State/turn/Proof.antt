@@ -132,9 +132,24 @@ use Rattle.engine.proofs.State.turn.Code as code
 use Rattle.engine.proofs.State.turn.Code.Mir as mir′
 
 abbrev stayed : Stays (own.ended .signature .params) (own.ended .kept)
-stayed = (stay-none (λ _. S.the-row) yes, (stay-none (λ _. usize) yes, (stay-none-slice (0 ∷ []) tt (plain (λ _.
-    u8)) yes, (stay-none-slice (1 ∷ []) tt (plain (λ _. u64)) yes, (stay-none-slice (2 ∷ []) tt (plain (λ _.
-    u16)) yes, (stay-none-slice (3 ∷ []) tt (plain (λ _. T.the-row)) yes, (stay-none (λ _. usize) yes, tt)))))))
+stayed = (
+  stay-none (λ _. S.the-row) yes,
+  (
+    stay-none (λ _. usize) yes,
+    (
+      stay-none-slice (0 ∷ []) tt (plain (λ _.
+          u8)) yes,
+      (
+        stay-none-slice (1 ∷ []) tt (plain (λ _. u64)) yes,
+        (
+          stay-none-slice (2 ∷ []) tt (plain (λ _.
+              u16)) yes,
+          (stay-none-slice (3 ∷ []) tt (plain (λ _. T.the-row)) yes, (stay-none (λ _. usize) yes, tt)),
+        ),
+      ),
+    ),
+  ),
+)
 
 abbrev τ : ℕ → Ty
 τ = tyAt mir′.locals
@@ -162,21 +177,85 @@ module _ {M : Type 1} (𝓤 : URA M) (H : Heap 𝓤) (A : Atoms 𝓤) (W : Given
 
   abbrev a : (State × (ℕ × (RefT (List ℕ) × (RefT (List ℕ) × (RefT (List ℕ) × (RefT (List Version) ×
       (ℕ × Unit {0})))))))
-  a = (state, (party, (record { ptr = (b-log, o-log); name = δ-log; now = log }, (record { ptr =
-      (b-records, o-records); name = δ-records; now = records }, (record { ptr =
-      (b-newest, o-newest); name = δ-newest; now = newest }, (record { ptr =
-      (b-versions, o-versions); name = δ-versions; now = versions }, (four, tt)))))))
+  a = (
+    state,
+    (
+      party,
+      (
+        record { ptr = (b-log, o-log); name = δ-log; now = log },
+        (
+          record {
+            ptr =
+                (b-records, o-records);
+            name = δ-records;
+            now = records;
+          },
+          (
+            record {
+              ptr =
+                  (b-newest, o-newest);
+              name = δ-newest;
+              now = newest;
+            },
+            (
+              record {
+                ptr =
+                    (b-versions, o-versions);
+                name = δ-versions;
+                now = versions;
+              },
+              (four, tt),
+            ),
+          ),
+        ),
+      ),
+    ),
+  )
 
   abbrev at : Vals own.signature (κ-log, (κ-records, (κ-newest, (κ-versions, tt))))
-  at = (Value.mach S.the-type S′.the-laws state ∷ [], (vint w64 party ∷ [], (sliceVal (b-log, o-log) m-log ∷ [],
-      (sliceVal (b-records, o-records) m-records ∷ [], (sliceVal (b-newest, o-newest) m-newest ∷ [], (sliceVal
-      (b-versions, o-versions) m-versions ∷ [], (vint w64 four ∷ [], tt)))))))
+  at = (
+    Value.mach S.the-type S′.the-laws state ∷ [],
+    (
+      vint w64 party ∷ [],
+      (
+        sliceVal (b-log, o-log) m-log ∷ [],
+        (
+          sliceVal (b-records, o-records) m-records ∷ [],
+          (
+            sliceVal (b-newest, o-newest) m-newest ∷ [],
+            (
+              sliceVal
+                  (b-versions, o-versions) m-versions ∷ [],
+              (vint w64 four ∷ [], tt),
+            ),
+          ),
+        ),
+      ),
+    ),
+  )
 
   abbrev Post : Val → SProp 𝓤
-  Post = walkOf 𝓤 H A own.ended stayed (own.clauses 𝓤 H A mem run) .post (((κ-log, (κ-records, (κ-newest,
-      (κ-versions, tt)))), (q-log, (q-records, (q-newest, (q-versions, tt)))), bounds, a, at), tt)
+  Post = walkOf 𝓤 H A own.ended stayed (own.clauses 𝓤 H A mem run) .post (
+    (
+      (
+        κ-log,
+        (
+          κ-records,
+          (
+            κ-newest,
+            (κ-versions, tt),
+          ),
+        ),
+      ),
+      (q-log, (q-records, (q-newest, (q-versions, tt)))),
+      bounds,
+      a,
+      at,
+    ),
+    tt,
+  )
 
-  exits : (h : Turn)  → h ≡ turnOf state party log records newest versions four
+  exits : (h : Turn) → h ≡ turnOf state party log records newest versions four
       → Value.Good M′.the-type M′′.the-laws h → ent 𝓤 (⋆ 𝓤 H A (‵ (sees u8 b-log o-log m-log κ-log δ-log log) ∷ ‵
       (flft κ-log q-log) ∷ ‵ (sees u64 b-records o-records m-records κ-records δ-records records) ∷ ‵
       (flft κ-records q-records) ∷ ‵ (sees u16 b-newest o-newest m-newest κ-newest δ-newest newest) ∷ ‵
@@ -184,21 +263,38 @@ module _ {M : Type 1} (𝓤 : URA M) (H : Heap 𝓤) (A : Atoms 𝓤) (W : Given
       ∷ ‵ (flft κ-versions q-versions) ∷ [])) (Post (Value.mach M′.the-type M′′.the-laws h))
   exits h e-0 g-h =
       qed W (‵ (sees u8 b-log o-log m-log κ-log δ-log log) ∷ ‵ (flft κ-log q-log) ∷ ‵
-          (sees u64 b-records o-records m-records κ-records δ-records records) ∷ ‵ (flft κ-records q-records) ∷ ‵
-          (sees u16 b-newest o-newest m-newest κ-newest δ-newest newest) ∷ ‵ (flft κ-newest q-newest) ∷ ‵
-          (sees T.the-row b-versions o-versions m-versions κ-versions δ-versions versions) ∷ ‵
-          (flft κ-versions q-versions) ∷ []) ∵
-          suffices ! _ (ends-at 𝓤 H A own.ended stayed (own.clauses 𝓤 H A mem run) W (((κ-log, (κ-records, (κ-newest,
-          (κ-versions, tt)))), (q-log, (q-records, (q-newest, (q-versions, tt)))), bounds, a, at), tt)
-          (Value.mach M′.the-type M′′.the-laws h) h (tt, (tt, (tt, (tt, (tt, (tt, (tt, tt)))))))
-          (tt, (tt, (tt, (tt, (tt, (tt, (tt, tt)))))))) $ says ! e-0 $ nothing ! $ move ! (8 ∷ 0 ∷ []) $ join ! $
-          move ! (6 ∷ 0 ∷ []) $ join ! $ move ! (4 ∷ 0 ∷ []) $ join ! $ move ! (2 ∷ 0 ∷ []) $ join ! $ frame ! $
-          nothing ! $ owned ! usize (Is usize) (uint-makes 𝓤 H A W w64) four _ (refl, g-four) $ fjoin ! $
-          move ! (4 ∷ 0 ∷ []) $ fjoin ! $ move ! (3 ∷ 0 ∷ []) $ fjoin ! $ move ! (2 ∷ 0 ∷ []) $ fjoin ! $
-          move ! (1 ∷ 0 ∷ []) $ fjoin ! $ owned ! usize (Is usize) (uint-makes 𝓤 H A W w64) party _ (refl, g-party) $
-          fjoin ! $ owned ! S.the-row (Is S.the-row) (LL.makes S.the-type S′.the-plain 𝓤 H A) state _ g-state $
-          fjoin ! $ frame ! $ owned ! M′.the-row (Is M′.the-row) (LL.makes M′.the-type M′′.the-plain 𝓤 H A) h _ g-h $
-          done !
+      (sees u64 b-records o-records m-records κ-records δ-records records) ∷ ‵ (flft κ-records q-records) ∷ ‵
+      (sees u16 b-newest o-newest m-newest κ-newest δ-newest newest) ∷ ‵ (flft κ-newest q-newest) ∷ ‵
+      (sees T.the-row b-versions o-versions m-versions κ-versions δ-versions versions) ∷ ‵
+      (flft κ-versions q-versions) ∷ []) ∵
+      suffices ! _ (ends-at 𝓤 H A own.ended stayed (own.clauses 𝓤 H A mem run) W (
+        (
+          (
+            κ-log,
+            (
+              κ-records,
+              (
+                κ-newest,
+                (κ-versions, tt),
+              ),
+            ),
+          ),
+          (q-log, (q-records, (q-newest, (q-versions, tt)))),
+          bounds,
+          a,
+          at,
+        ),
+        tt,
+      )
+      (Value.mach M′.the-type M′′.the-laws h) h (tt, (tt, (tt, (tt, (tt, (tt, (tt, tt)))))))
+      (tt, (tt, (tt, (tt, (tt, (tt, (tt, tt)))))))) $ says ! e-0 $ nothing ! $ move ! (8 ∷ 0 ∷ []) $ join ! $
+      move ! (6 ∷ 0 ∷ []) $ join ! $ move ! (4 ∷ 0 ∷ []) $ join ! $ move ! (2 ∷ 0 ∷ []) $ join ! $ frame ! $
+      nothing ! $ owned ! usize (Is usize) (uint-makes 𝓤 H A W w64) four _ (refl, g-four) $ fjoin ! $
+      move ! (4 ∷ 0 ∷ []) $ fjoin ! $ move ! (3 ∷ 0 ∷ []) $ fjoin ! $ move ! (2 ∷ 0 ∷ []) $ fjoin ! $
+      move ! (1 ∷ 0 ∷ []) $ fjoin ! $ owned ! usize (Is usize) (uint-makes 𝓤 H A W w64) party _ (refl, g-party) $
+      fjoin ! $ owned ! S.the-row (Is S.the-row) (LL.makes S.the-type S′.the-plain 𝓤 H A) state _ g-state $
+      fjoin ! $ frame ! $ owned ! M′.the-row (Is M′.the-row) (LL.makes M′.the-type M′′.the-plain 𝓤 H A) h _ g-h $
+      done !
 
   module _ (𝓣 : Tables 𝓤 H) (k-aim : Triple 𝓤 (𝓣 .C #aim) (AimCall 𝓤 H A mem run)) (k-turn-after-look : Triple 𝓤
       (𝓣 .C #turn-after-look) (TurnAfterLook 𝓤 H A mem run)) where
@@ -211,19 +307,24 @@ module _ {M : Type 1} (𝓤 : URA M) (H : Heap 𝓤) (A : Atoms 𝓤) (W : Given
     fm : FmC 𝓤 H (W .laws) C
     fm = fmOf 𝓤 H (W .laws) 𝓣
 
-    walk : ent 𝓤 (onEntry 𝓤 H A own.signature (κ-log, (κ-records, (κ-newest, (κ-versions, tt)))) (q-log, (q-records,
-        (q-newest, (q-versions, tt)))) a at) (WpFn 𝓤 H C Λ code.function
+    walk : ent 𝓤 (onEntry 𝓤 H A own.signature (κ-log, (κ-records, (κ-newest, (κ-versions, tt)))) (
+      q-log,
+      (
+        q-records,
+        (q-newest, (q-versions, tt)),
+      ),
+    ) a at) (WpFn 𝓤 H C Λ code.function
         (Value.mach S.the-type S′.the-laws state ∷ vint w64 party ∷ sliceVal (b-log, o-log) m-log ∷ sliceVal
         (b-records, o-records) m-records ∷ sliceVal (b-newest, o-newest) m-newest ∷ sliceVal (b-versions, o-versions)
         m-versions ∷ vint w64 four ∷ []) Post)
     walk =
         qed W ((‵ (flft κ-log q-log) ⊛ ‵ (flft κ-records q-records) ⊛ ‵ (flft κ-newest q-newest) ⊛ ‵
-            (flft κ-versions q-versions) ⊛ ‵ ftrue) ∷ ‵ (owns (S.the-row ∷ usize ∷ ShrSlice (named 0)
-            κ-log u8 ∷ ShrSlice (named 1) κ-records u64 ∷ ShrSlice (named 2) κ-newest u16 ∷ ShrSlice (named 3)
-            κ-versions T.the-row ∷ usize ∷ []) a at) ∷ []) ∵
-            enter ! C Λ code.function (Value.mach S.the-type S′.the-laws state ∷ vint w64 party ∷ sliceVal
-            (b-log, o-log) m-log ∷ sliceVal (b-records, o-records) m-records ∷ sliceVal (b-newest, o-newest)
-            m-newest ∷ sliceVal (b-versions, o-versions) m-versions ∷ vint w64 four ∷ []) _ $
+        (flft κ-versions q-versions) ⊛ ‵ ftrue) ∷ ‵ (owns (S.the-row ∷ usize ∷ ShrSlice (named 0)
+        κ-log u8 ∷ ShrSlice (named 1) κ-records u64 ∷ ShrSlice (named 2) κ-newest u16 ∷ ShrSlice (named 3)
+        κ-versions T.the-row ∷ usize ∷ []) a at) ∷ []) ∵
+        enter ! C Λ code.function (Value.mach S.the-type S′.the-laws state ∷ vint w64 party ∷ sliceVal
+        (b-log, o-log) m-log ∷ sliceVal (b-records, o-records) m-records ∷ sliceVal (b-newest, o-newest)
+        m-newest ∷ sliceVal (b-versions, o-versions) m-versions ∷ vint w64 four ∷ []) _ $
         alloc1 ! (λ l-0.
         alloc1 ! (λ l-1.
         alloc1 ! (λ l-2.
@@ -238,7 +339,7 @@ module _ {M : Type 1} (𝓤 : URA M) (H : Heap 𝓤) (A : Atoms 𝓤) (W : Given
         alloc0 ! $
         params1 ! $
         pass1 ! (init ! 18 refl (Value.typed S.the-type S′.the-laws 𝓤 H A W state
-            (Value.mach S.the-type S′.the-laws state) (refl, g-state))) $
+        (Value.mach S.the-type S′.the-laws state) (refl, g-state))) $
         pass1 ! (init ! 16 refl (tt, record { fits = g-party })) $
         pass1 ! (init ! 14 refl (tt, (tt, (record { fits = room-log .0 }, tt)))) $
         pass1 ! (init ! 12 refl (tt, (tt, (record { fits = room-records .0 }, tt)))) $
@@ -273,81 +374,89 @@ module _ {M : Type 1} (𝓤 : URA M) (H : Heap 𝓤) (A : Atoms 𝓤) (W : Given
         move ! (1 ∷ []) $
         drop ! $
         assigns ! (of-opd ! (load ! (from ! (fld ! refl (stop !))) (look-in ! 20 (sub ! 1 refl (whole !))))) (from !
-            (stop !)) (init ! 10 refl (tt, record { fits = room-records .0 })) $
+        (stop !)) (init ! 10 refl (tt, record { fits = room-records .0 })) $
         assigns ! (of-opd ! (load ! (from ! (fld ! refl (stop !))) (look-in ! 16 (sub ! 1 refl (whole !))))) (from !
-            (stop !)) (init ! 8 refl (tt, record { fits = room-versions .0 })) $
+        (stop !)) (init ! 8 refl (tt, record { fits = room-versions .0 })) $
         move ! (7 ∷ []) $
         use1 W (‵ (sees u8 b-log o-log m-log κ-log δ-log log) ⊛ ‵ (sees u8 b-log o-log m-log κ-log δ-log log))
-            (shr-slice-copy 𝓤 H A W (named 0) κ-log u8 .twice (record { ptr =
-            (b-log, o-log); name = δ-log; now = log }) (sliceVal (b-log, o-log) m-log ∷ [])) $
+        (shr-slice-copy 𝓤 H A W (named 0) κ-log u8 .twice (record {
+          ptr =
+              (b-log, o-log);
+          name = δ-log;
+          now = log;
+        }) (sliceVal (b-log, o-log) m-log ∷ [])) $
         split ! $
         move ! (7 ∷ []) $
         use1 W (‵ (sees u16 b-newest o-newest m-newest κ-newest δ-newest newest) ⊛ ‵
-            (sees u16 b-newest o-newest m-newest κ-newest δ-newest newest)) (shr-slice-copy 𝓤 H A W (named 0)
-            κ-newest u16 .twice (record { ptr = (b-newest, o-newest); name = δ-newest; now = newest }) (sliceVal
-            (b-newest, o-newest) m-newest ∷ [])) $
+        (sees u16 b-newest o-newest m-newest κ-newest δ-newest newest)) (shr-slice-copy 𝓤 H A W (named 0)
+        κ-newest u16 .twice (record { ptr = (b-newest, o-newest); name = δ-newest; now = newest }) (sliceVal
+        (b-newest, o-newest) m-newest ∷ [])) $
         split ! $
         move ! (7 ∷ 2 ∷ 5 ∷ 0 ∷ []) $
         use4 W (raw (AimCall 𝓤 H A mem run .pre (to-aim 𝓤 H A W mem run state party log newest m-records m-versions
-            four b-log o-log m-log b-newest o-newest m-newest κ-log q-log δ-log κ-newest q-newest δ-newest)))
-            (aim-goes 𝓤 H A W mem run state party log newest m-records m-versions four b-log o-log m-log b-newest
-            o-newest m-newest κ-log q-log δ-log κ-newest q-newest δ-newest g-state g-party (room-records .0)
-            (room-versions .0) g-four) $
+        four b-log o-log m-log b-newest o-newest m-newest κ-log q-log δ-log κ-newest q-newest δ-newest)))
+        (aim-goes 𝓤 H A W mem run state party log newest m-records m-versions four b-log o-log m-log b-newest
+        o-newest m-newest κ-log q-log δ-log κ-newest q-newest δ-newest g-state g-party (room-records .0)
+        (room-versions .0) g-four) $
         calls-at ! fm (AimCall 𝓤 H A mem run) k-aim (to-aim 𝓤 H A W mem run state party log newest m-records
-            m-versions four b-log o-log m-log b-newest o-newest m-newest κ-log q-log δ-log κ-newest q-newest
-            δ-newest) (and-then ! (load ! (from ! (stop !)) (look ! 25 refl)) (and-then ! (load ! (from ! (stop !))
-            (look ! 23 refl)) (and-then ! (load ! (from ! (stop !)) (look ! 21 refl)) (and-then ! (load ! (from !
-            (stop !)) (look ! 17 refl)) (and-then ! (load ! (from ! (stop !)) (look ! 9 refl)) (and-then ! (load !
-            (from ! (stop !)) (look ! 7 refl)) (and-then ! (load ! (from ! (stop !)) (look ! 13 refl))
-            (no-more !)))))))) (λ u1.
+        m-versions four b-log o-log m-log b-newest o-newest m-newest κ-log q-log δ-log κ-newest q-newest
+        δ-newest) (and-then ! (load ! (from ! (stop !)) (look ! 25 refl)) (and-then ! (load ! (from ! (stop !))
+        (look ! 23 refl)) (and-then ! (load ! (from ! (stop !)) (look ! 21 refl)) (and-then ! (load ! (from !
+        (stop !)) (look ! 17 refl)) (and-then ! (load ! (from ! (stop !)) (look ! 9 refl)) (and-then ! (load !
+        (from ! (stop !)) (look ! 7 refl)) (and-then ! (load ! (from ! (stop !)) (look ! 13 refl))
+        (no-more !)))))))) (λ u1.
         use1 W (later (some (λ (x : Unit {0}). given
-            (aim-said 𝓤 H A W mem run state party log newest m-records m-versions four b-log o-log m-log b-newest
-            o-newest m-newest κ-log q-log δ-log κ-newest q-newest δ-newest u1 x) (‵ (flft κ-log q-log) ⊛ ‵
-            (flft κ-newest q-newest))))) (aim-gives 𝓤 H A W mem run state party log newest m-records m-versions four
-            b-log o-log m-log b-newest o-newest m-newest κ-log q-log δ-log κ-newest q-newest δ-newest u1) $
-            await ! tt $ pick ! (λ x1. learn ! (λ s1.
+        (aim-said 𝓤 H A W mem run state party log newest m-records m-versions four b-log o-log m-log b-newest
+        o-newest m-newest κ-log q-log δ-log κ-newest q-newest δ-newest u1 x) (‵ (flft κ-log q-log) ⊛ ‵
+        (flft κ-newest q-newest))))) (aim-gives 𝓤 H A W mem run state party log newest m-records m-versions four
+        b-log o-log m-log b-newest o-newest m-newest κ-log q-log δ-log κ-newest q-newest δ-newest u1) $
+        await ! tt $ pick ! (λ x1. learn ! (λ s1.
         split ! $
         move ! (1 ∷ []) $
         land ! (from ! (stop !)) (init ! 12 refl (Value.typed J.the-type J′.the-laws 𝓤 H A W
-            (aimOf state party log newest m-records m-versions four) u1 (s1))) $
+        (aimOf state party log newest m-records m-versions four) u1 (s1))) $
         rewrite ! 12 (λ (z : Val). ‵ (fat fullShare (τ 8) l-8 0 z)) (s1 .0) refl $
         move ! (6 ∷ []) $
         use1 W (‵ (sees T.the-row b-versions o-versions m-versions κ-versions δ-versions versions) ⊛ ‵
-            (sees T.the-row b-versions o-versions m-versions κ-versions δ-versions versions)) (shr-slice-copy 𝓤 H A W
-            (named 0) κ-versions T.the-row .twice (record { ptr = (b-versions, o-versions); name = δ-versions; now
-            = versions }) (sliceVal (b-versions, o-versions) m-versions ∷ [])) $
+        (sees T.the-row b-versions o-versions m-versions κ-versions δ-versions versions)) (shr-slice-copy 𝓤 H A W
+        (named 0) κ-versions T.the-row .twice (record {
+          ptr = (b-versions, o-versions);
+          name = δ-versions;
+          now
+              = versions;
+        }) (sliceVal (b-versions, o-versions) m-versions ∷ [])) $
         split ! $
         move ! (8 ∷ []) $
         use1 W (‵ (sees u64 b-records o-records m-records κ-records δ-records records) ⊛ ‵
-            (sees u64 b-records o-records m-records κ-records δ-records records)) (shr-slice-copy 𝓤 H A W (named 0)
-            κ-records u64 .twice (record { ptr = (b-records, o-records); name = δ-records; now = records }) (sliceVal
-            (b-records, o-records) m-records ∷ [])) $
+        (sees u64 b-records o-records m-records κ-records δ-records records)) (shr-slice-copy 𝓤 H A W (named 0)
+        κ-records u64 .twice (record { ptr = (b-records, o-records); name = δ-records; now = records }) (sliceVal
+        (b-records, o-records) m-records ∷ [])) $
         split ! $
         move ! (8 ∷ 2 ∷ 9 ∷ 0 ∷ []) $
         use4 W (raw (TurnAfterLook 𝓤 H A mem run .pre (to-turn-after-look 𝓤 H A W mem run versions records
-            (aimOf state party log newest m-records m-versions four) b-versions o-versions m-versions b-records
-            o-records m-records κ-versions q-versions δ-versions κ-records q-records δ-records)))
-            (turn-after-look-goes 𝓤 H A W mem run versions records (aimOf state party log newest m-records m-versions
-            four) b-versions o-versions m-versions b-records o-records m-records κ-versions q-versions δ-versions
-            κ-records q-records δ-records (s1 .1)) $
+        (aimOf state party log newest m-records m-versions four) b-versions o-versions m-versions b-records
+        o-records m-records κ-versions q-versions δ-versions κ-records q-records δ-records)))
+        (turn-after-look-goes 𝓤 H A W mem run versions records (aimOf state party log newest m-records m-versions
+        four) b-versions o-versions m-versions b-records o-records m-records κ-versions q-versions δ-versions
+        κ-records q-records δ-records (s1 .1)) $
         calls-at ! fm (TurnAfterLook 𝓤 H A mem run) k-turn-after-look
-            (to-turn-after-look 𝓤 H A W mem run versions records (aimOf state party log newest m-records m-versions
-            four) b-versions o-versions m-versions b-records o-records m-records κ-versions q-versions δ-versions
-            κ-records q-records δ-records) (and-then ! (load ! (from ! (stop !)) (look ! 15 refl)) (and-then !
-            (load ! (from ! (stop !)) (look ! 19 refl)) (and-then ! (load ! (from ! (stop !)) (look ! 11 refl))
-            (no-more !)))) (λ u2.
+        (to-turn-after-look 𝓤 H A W mem run versions records (aimOf state party log newest m-records m-versions
+        four) b-versions o-versions m-versions b-records o-records m-records κ-versions q-versions δ-versions
+        κ-records q-records δ-records) (and-then ! (load ! (from ! (stop !)) (look ! 15 refl)) (and-then !
+        (load ! (from ! (stop !)) (look ! 19 refl)) (and-then ! (load ! (from ! (stop !)) (look ! 11 refl))
+        (no-more !)))) (λ u2.
         use1 W (later (some (λ (x : Unit {0}). given (turn-after-look-said 𝓤 H A W mem run versions records
-            (aimOf state party log newest m-records m-versions four) b-versions o-versions m-versions b-records
-            o-records m-records κ-versions q-versions δ-versions κ-records q-records δ-records u2 x)
-            (‵ (flft κ-versions q-versions) ⊛ ‵ (flft κ-records q-records)))))
-            (turn-after-look-gives 𝓤 H A W mem run versions records
-            (aimOf state party log newest m-records m-versions four) b-versions o-versions m-versions b-records
-            o-records m-records κ-versions q-versions δ-versions κ-records q-records δ-records u2) $ await ! tt $
-            pick ! (λ x2. learn ! (λ s2.
+        (aimOf state party log newest m-records m-versions four) b-versions o-versions m-versions b-records
+        o-records m-records κ-versions q-versions δ-versions κ-records q-records δ-records u2 x)
+        (‵ (flft κ-versions q-versions) ⊛ ‵ (flft κ-records q-records)))))
+        (turn-after-look-gives 𝓤 H A W mem run versions records
+        (aimOf state party log newest m-records m-versions four) b-versions o-versions m-versions b-records
+        o-records m-records κ-versions q-versions δ-versions κ-records q-records δ-records u2) $ await ! tt $
+        pick ! (λ x2. learn ! (λ s2.
         split ! $
         move ! (1 ∷ []) $
         land ! (from ! (stop !)) (init ! 28 refl (Value.typed M′.the-type M′′.the-laws 𝓤 H A W
-            (turnAfter versions records (aimOf state party log newest m-records m-versions four)) u2 (s2))) $
+        (turnAfter versions records (aimOf state party log newest m-records m-versions four)) u2 (s2))) $
         rewrite ! 28 (λ (z : Val). ‵ (fat fullShare (τ 0) l-0 0 z)) (s2 .0) refl $
         returns ! (look ! 28 refl) $
         forget ! 28 refl $
@@ -386,7 +495,7 @@ module _ {M : Type 1} (𝓤 : URA M) (H : Heap 𝓤) (A : Atoms 𝓤) (W : Given
         free0 ! $
         move ! (7 ∷ 5 ∷ 2 ∷ 0 ∷ 6 ∷ 4 ∷ 3 ∷ 1 ∷ []) $
         by ! (exits (turnAfter versions records (aimOf state party log newest m-records m-versions four))
-            (turn-is state party log records newest versions four)  (s2 .1)))))))))))))))))))
+        (turn-is state party log records newest versions four) (s2 .1)))))))))))))))))))
 
 module _ {M : Type 1} (𝓤 : URA M) (H : Heap 𝓤) (A : Atoms 𝓤) (W : Given 𝓤 H A) (mem : Memory
     → SProp 𝓤) (run : Routine → Fun 𝓤) where
@@ -394,33 +503,82 @@ module _ {M : Type 1} (𝓤 : URA M) (H : Heap 𝓤) (A : Atoms 𝓤) (W : Given
       → Triple 𝓤 (𝓣 .C #turn-after-look) (TurnAfterLook 𝓤 H A mem run)
       → Walks 𝓤 H A own.ended stayed (WpFn 𝓤 H (𝓣 .C) (𝓣 .Λ) code.function) (own.clauses 𝓤 H A mem run)
   own-walks 𝓣 k-aim k-turn-after-look =
-      walked 𝓤 H A own.ended stayed (own.clauses 𝓤 H A mem run) (WpFn 𝓤 H (𝓣 .C) (𝓣 .Λ) code.function) (λ κs.
-          (LL.vals S.the-type S′.the-laws, (uint-vals w64, (slice-vals, (slice-vals, (slice-vals, (slice-vals,
-          (uint-vals w64, tt)))))))) (λ κs. (LL.tells S.the-type S′.the-laws, (uint-tells w64, (shr-slice-tells
-          (named 0) (κs .0) u8, (shr-slice-tells (named 1) (κs .1 .0) u64, (shr-slice-tells (named 2) (κs .1 .1 .0)
-          u16, (shr-slice-tells (named 3) (κs .1 .1 .1 .0) T.the-row, (uint-tells w64, tt))))))))
-          (λ κs qs bounds a g are. via 𝓤 _ (fst∗ 𝓤 _ (emp 𝓤)) (walk 𝓤 H A W mem run (κs .0) (κs .1 .0) (κs .1 .1 .0)
-          (κs .1 .1 .1 .0) bounds (qs .0) (qs .1 .0) (qs .1 .1 .0) (qs .1 .1 .1 .0) (a .0) (a .1 .0)
-          (a .1 .1 .0 .ptr .0) (a .1 .1 .0 .ptr .1) (a .1 .1 .0 .name) (a .1 .1 .0 .now) (a .1 .1 .1 .0 .ptr .0)
-          (a .1 .1 .1 .0 .ptr .1) (a .1 .1 .1 .0 .name) (a .1 .1 .1 .0 .now) (a .1 .1 .1 .1 .0 .ptr .0)
-          (a .1 .1 .1 .1 .0 .ptr .1) (a .1 .1 .1 .1 .0 .name) (a .1 .1 .1 .1 .0 .now) (a .1 .1 .1 .1 .1 .0 .ptr .0)
-          (a .1 .1 .1 .1 .1 .0 .ptr .1) (a .1 .1 .1 .1 .1 .0 .name) (a .1 .1 .1 .1 .1 .0 .now)
-          (a .1 .1 .1 .1 .1 .1 .0) (are .0) (are .1 .0 .1) (are .1 .1 .0 .0 .1) (are .1 .1 .1 .0 .0 .1)
-          (are .1 .1 .1 .1 .0 .0 .1) (are .1 .1 .1 .1 .1 .0 .0 .1) (are .1 .1 .1 .1 .1 .1 .0 .1)
-          𝓣 k-aim k-turn-after-look))
+      walked 𝓤 H A own.ended stayed (own.clauses 𝓤 H A mem run) (WpFn 𝓤 H (𝓣 .C) (𝓣 .Λ) code.function) (λ κs. (
+        LL.vals S.the-type S′.the-laws,
+        (
+          uint-vals w64,
+          (
+            slice-vals,
+            (
+              slice-vals,
+              (
+                slice-vals,
+                (
+                  slice-vals,
+                  (uint-vals w64, tt),
+                ),
+              ),
+            ),
+          ),
+        ),
+      )) (λ κs. (
+        LL.tells S.the-type S′.the-laws,
+        (
+          uint-tells w64,
+          (
+            shr-slice-tells
+                (named 0) (κs .0) u8,
+            (
+              shr-slice-tells (named 1) (κs .1 .0) u64,
+              (
+                shr-slice-tells (named 2) (κs .1 .1 .0)
+                    u16,
+                (shr-slice-tells (named 3) (κs .1 .1 .1 .0) T.the-row, (uint-tells w64, tt)),
+              ),
+            ),
+          ),
+        ),
+      ))
+      (λ κs qs bounds a g are. via 𝓤 _ (fst∗ 𝓤 _ (emp 𝓤)) (walk 𝓤 H A W mem run (κs .0) (κs .1 .0) (κs .1 .1 .0)
+      (κs .1 .1 .1 .0) bounds (qs .0) (qs .1 .0) (qs .1 .1 .0) (qs .1 .1 .1 .0) (a .0) (a .1 .0)
+      (a .1 .1 .0 .ptr .0) (a .1 .1 .0 .ptr .1) (a .1 .1 .0 .name) (a .1 .1 .0 .now) (a .1 .1 .1 .0 .ptr .0)
+      (a .1 .1 .1 .0 .ptr .1) (a .1 .1 .1 .0 .name) (a .1 .1 .1 .0 .now) (a .1 .1 .1 .1 .0 .ptr .0)
+      (a .1 .1 .1 .1 .0 .ptr .1) (a .1 .1 .1 .1 .0 .name) (a .1 .1 .1 .1 .0 .now) (a .1 .1 .1 .1 .1 .0 .ptr .0)
+      (a .1 .1 .1 .1 .1 .0 .ptr .1) (a .1 .1 .1 .1 .1 .0 .name) (a .1 .1 .1 .1 .1 .0 .now)
+      (a .1 .1 .1 .1 .1 .1 .0) (are .0) (are .1 .0 .1) (are .1 .1 .0 .0 .1) (are .1 .1 .1 .0 .0 .1)
+      (are .1 .1 .1 .1 .0 .0 .1) (are .1 .1 .1 .1 .1 .0 .0 .1) (are .1 .1 .1 .1 .1 .1 .0 .1)
+      𝓣 k-aim k-turn-after-look))
 
 own-meets : {M : Type 1} (𝓤 : URA M) (H : Heap 𝓤) (A : Atoms 𝓤) → Given 𝓤 H A → (mem : Memory
     → SProp 𝓤) (run : Routine → Fun 𝓤) (𝓣 : Tables 𝓤 H) → Triple 𝓤 (𝓣 .C #aim) (AimCall 𝓤 H A mem run)
     → Triple 𝓤 (𝓣 .C #turn-after-look) (TurnAfterLook 𝓤 H A mem run)
     → Meets 𝓤 H A own.signature (WpFn 𝓤 H (𝓣 .C) (𝓣 .Λ) code.function) (own.spec 𝓤 H A mem run)
 own-meets 𝓤 H A W mem run 𝓣 k-aim k-turn-after-look =
-    walk-meets 𝓤 H A own.ended stayed W (goes-none 𝓤 H A W 4 (λ _. S.the-row) yes (λ κs x f.
-        refl), (goes-none 𝓤 H A W 4 (λ _. usize) yes (λ κs x f. refl), (goes-none-slice 𝓤 H A W 4 (0 ∷ []) tt (plain
-        (λ _. u8)) yes, (goes-none-slice 𝓤 H A W 4 (1 ∷ []) tt (plain (λ _. u64)) yes, (goes-none-slice 𝓤 H A W 4
-        (2 ∷ []) tt (plain (λ _. u16)) yes, (goes-none-slice 𝓤 H A W 4 (3 ∷ []) tt (plain (λ _.
-        T.the-row)) yes, (goes-none 𝓤 H A W 4 (λ _. usize) yes (λ κs x f. refl), tt)))))))
-        (own.clauses 𝓤 H A mem run) (WpFn 𝓤 H (𝓣 .C) (𝓣 .Λ) code.function) (WpFn-mono 𝓤 H (W .laws) 𝓣 code.function)
-        (own-walks 𝓤 H A W mem run 𝓣 k-aim k-turn-after-look)
+    walk-meets 𝓤 H A own.ended stayed W (
+      goes-none 𝓤 H A W 4 (λ _. S.the-row) yes (λ κs x f.
+          refl),
+      (
+        goes-none 𝓤 H A W 4 (λ _. usize) yes (λ κs x f. refl),
+        (
+          goes-none-slice 𝓤 H A W 4 (0 ∷ []) tt (plain
+              (λ _. u8)) yes,
+          (
+            goes-none-slice 𝓤 H A W 4 (1 ∷ []) tt (plain (λ _. u64)) yes,
+            (
+              goes-none-slice 𝓤 H A W 4
+                  (2 ∷ []) tt (plain (λ _. u16)) yes,
+              (
+                goes-none-slice 𝓤 H A W 4 (3 ∷ []) tt (plain (λ _.
+                    T.the-row)) yes,
+                (goes-none 𝓤 H A W 4 (λ _. usize) yes (λ κs x f. refl), tt),
+              ),
+            ),
+          ),
+        ),
+      ),
+    )
+    (own.clauses 𝓤 H A mem run) (WpFn 𝓤 H (𝓣 .C) (𝓣 .Λ) code.function) (WpFn-mono 𝓤 H (W .laws) 𝓣 code.function)
+    (own-walks 𝓤 H A W mem run 𝓣 k-aim k-turn-after-look)
 
 pub turn-spec : {M : Type 1} → stated.statement M
 unfolding code.routine tablesOf
@@ -429,6 +587,6 @@ turn-spec 𝓤 H 𝓜 𝓖 𝓡 =
     (tables 𝓤 H 𝓜 𝓡 code.env .C) (tables 𝓤 H 𝓜 𝓡 code.env .Λ) #own code.function (code.unfolded 𝓤 H 𝓜 𝓡)
     (own-meets 𝓤 H (𝓖 .A) (givenOf 𝓤 H 𝓜 𝓖) (𝓜 .mem) (𝓡 .run) (tablesOf 𝓤 H 𝓜 (tables 𝓤 H 𝓜 𝓡 code.env))
     (cited 𝓤 H (AimCall 𝓤 H (𝓖 .A) (𝓜 .mem) (𝓡 .run)) 𝓜 𝓡 code.env #aim aim-def.routine code.calls-engine·State·aim
-        (aim-thm.met 𝓤 H 𝓜 𝓖 𝓡))
+    (aim-thm.met 𝓤 H 𝓜 𝓖 𝓡))
     (cited 𝓤 H (TurnAfterLook 𝓤 H (𝓖 .A) (𝓜 .mem) (𝓡 .run)) 𝓜 𝓡 code.env #turn-after-look turn-after-look-def.routine
-        code.calls-engine·advance·turn-after-look (turn-after-look-thm.met 𝓤 H 𝓜 𝓖 𝓡)))
+    code.calls-engine·advance·turn-after-look (turn-after-look-thm.met 𝓤 H 𝓜 𝓖 𝓡)))

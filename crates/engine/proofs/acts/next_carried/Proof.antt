@@ -1,3 +1,5 @@
+use mathlib.Core.Bool.{false}
+use lib.ListN.{getD}
 use Prim.Native.Nat.{_≤_, _+_}
 use mathlib.Core.Path.{_≡_}
 use Rattle.engine.specs.LawsActs.{one-most}
@@ -28,8 +30,8 @@ one-requires-2 c κs = search needs
 -- src/acts.rt:71:18
 add-second : tie.Need-add-second
 add-second c =
-    let first : c .before .one .result ≤ 1 = rw (c .before .one .ensures) (one-most _) in
-    let second : c .one2 .result ≤ 1 = rw (c .one2 .ensures) (one-most _) in
+    let first : c .before .one .result ≤ 1 = rw (c .before .one .ensures) (one-most (getD (c .before .before .args .t1) 0 false)) in
+    let second : c .one2 .result ≤ 1 = rw (c .one2 .ensures) (one-most (getD (c .before .before .args .t1) 1 false)) in
     search needs
 
 -- src/acts.rt:72:8

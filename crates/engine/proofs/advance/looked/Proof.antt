@@ -136,8 +136,14 @@ use Rattle.engine.proofs.advance.looked.Code as code
 use Rattle.engine.proofs.advance.looked.Code.Mir as mir′
 
 abbrev stayed : Stays (own.ended .signature .params) (own.ended .kept)
-stayed = (stay-none-slice (0 ∷ []) tt (plain (λ _. T.the-row)) yes, (stay-none-slice (1 ∷ []) tt (plain (λ _.
-    u64)) yes, (stay-none (λ _. K.the-row) yes, tt)))
+stayed = (
+  stay-none-slice (0 ∷ []) tt (plain (λ _. T.the-row)) yes,
+  (
+    stay-none-slice (1 ∷ []) tt (plain (λ _.
+        u64)) yes,
+    (stay-none (λ _. K.the-row) yes, tt),
+  ),
+)
 
 abbrev τ : ℕ → Ty
 τ = tyAt mir′.locals
@@ -155,32 +161,63 @@ module _ {M : Type 1} (𝓤 : URA M) (H : Heap 𝓤) (A : Atoms 𝓤) (W : Given
   m-records = length records
 
   abbrev a : (RefT (List Version) × (RefT (List ℕ) × (Look × Unit {0})))
-  a = (record { ptr = (b-versions, o-versions); name = δ-versions; now = versions }, (record { ptr =
-      (b-records, o-records); name = δ-records; now = records }, (sight, tt)))
+  a = (
+    record { ptr = (b-versions, o-versions); name = δ-versions; now = versions },
+    (
+      record {
+        ptr =
+            (b-records, o-records);
+        name = δ-records;
+        now = records;
+      },
+      (sight, tt),
+    ),
+  )
 
   abbrev at : Vals own.signature (κ-versions, (κ-records, tt))
-  at = (sliceVal (b-versions, o-versions) m-versions ∷ [], (sliceVal (b-records, o-records) m-records ∷ [],
-      (Value.mach K.the-type K′.the-laws sight ∷ [], tt)))
+  at = (
+    sliceVal (b-versions, o-versions) m-versions ∷ [],
+    (
+      sliceVal (b-records, o-records) m-records ∷ [],
+      (Value.mach K.the-type K′.the-laws sight ∷ [], tt),
+    ),
+  )
 
   abbrev Post : Val → SProp 𝓤
-  Post = walkOf 𝓤 H A own.ended stayed (own.clauses 𝓤 H A mem run) .post (((κ-versions, (κ-records, tt)),
-      (q-versions, (q-records, tt)), bounds, a, at), tt)
+  Post = walkOf 𝓤 H A own.ended stayed (own.clauses 𝓤 H A mem run) .post (
+    (
+      (κ-versions, (κ-records, tt)),
+      (q-versions, (q-records, tt)),
+      bounds,
+      a,
+      at,
+    ),
+    tt,
+  )
 
-  exits : (h : Seen)  → h ≡ lookedBy versions records sight → Choice.Good N.the-type N′.the-laws h
+  exits : (h : Seen) → h ≡ lookedBy versions records sight → Choice.Good N.the-type N′.the-laws h
       → ent 𝓤 (⋆ 𝓤 H A (‵ (sees T.the-row b-versions o-versions m-versions κ-versions δ-versions versions) ∷ ‵
       (flft κ-versions q-versions) ∷ ‵ (sees u64 b-records o-records m-records κ-records δ-records records) ∷ ‵
       (flft κ-records q-records) ∷ [])) (Post (Choice.mach N.the-type N′.the-laws h))
   exits h e-0 g-h =
       qed W (‵ (sees T.the-row b-versions o-versions m-versions κ-versions δ-versions versions) ∷ ‵
-          (flft κ-versions q-versions) ∷ ‵ (sees u64 b-records o-records m-records κ-records δ-records records) ∷ ‵
-          (flft κ-records q-records) ∷ []) ∵
-          suffices ! _ (ends-at 𝓤 H A own.ended stayed (own.clauses 𝓤 H A mem run) W (((κ-versions, (κ-records, tt)),
-          (q-versions, (q-records, tt)), bounds, a, at), tt) (Choice.mach N.the-type N′.the-laws h) h
-          (tt, (tt, (tt, tt))) (tt, (tt, (tt, tt)))) $ says ! e-0 $ nothing ! $ move ! (4 ∷ 0 ∷ []) $ join ! $
-          move ! (2 ∷ 0 ∷ []) $ join ! $ frame ! $ nothing ! $
-          owned ! K.the-row (Is K.the-row) (LL.makes K.the-type K′.the-plain 𝓤 H A) sight _ g-sight $ fjoin ! $
-          move ! (2 ∷ 0 ∷ []) $ fjoin ! $ move ! (1 ∷ 0 ∷ []) $ fjoin ! $ frame ! $
-          owned ! N.the-row (Is N.the-row) (EL.makes N.the-type N′.the-plain 𝓤 H A) h _ g-h $ done !
+      (flft κ-versions q-versions) ∷ ‵ (sees u64 b-records o-records m-records κ-records δ-records records) ∷ ‵
+      (flft κ-records q-records) ∷ []) ∵
+      suffices ! _ (ends-at 𝓤 H A own.ended stayed (own.clauses 𝓤 H A mem run) W (
+        (
+          (κ-versions, (κ-records, tt)),
+          (q-versions, (q-records, tt)),
+          bounds,
+          a,
+          at,
+        ),
+        tt,
+      ) (Choice.mach N.the-type N′.the-laws h) h
+      (tt, (tt, (tt, tt))) (tt, (tt, (tt, tt)))) $ says ! e-0 $ nothing ! $ move ! (4 ∷ 0 ∷ []) $ join ! $
+      move ! (2 ∷ 0 ∷ []) $ join ! $ frame ! $ nothing ! $
+      owned ! K.the-row (Is K.the-row) (LL.makes K.the-type K′.the-plain 𝓤 H A) sight _ g-sight $ fjoin ! $
+      move ! (2 ∷ 0 ∷ []) $ fjoin ! $ move ! (1 ∷ 0 ∷ []) $ fjoin ! $ frame ! $
+      owned ! N.the-row (Is N.the-row) (EL.makes N.the-type N′.the-plain 𝓤 H A) h _ g-h $ done !
 
   module _ (𝓣 : Tables 𝓤 H) (k-walk : Triple 𝓤 (𝓣 .C #walk) (WalkCall 𝓤 H A mem run)) (k-number-at : Triple 𝓤
       (𝓣 .C #number-at) (NumberAt 𝓤 H A mem run)) (k-seen-by : Triple 𝓤 (𝓣 .C #seen-by) (SeenBy 𝓤 H A mem run)) where
@@ -198,9 +235,9 @@ module _ {M : Type 1} (𝓤 : URA M) (H : Heap 𝓤) (A : Atoms 𝓤) (W : Given
         m-records ∷ Value.mach K.the-type K′.the-laws sight ∷ []) Post)
     walk =
         qed W ((‵ (flft κ-versions q-versions) ⊛ ‵ (flft κ-records q-records) ⊛ ‵ ftrue) ∷ ‵ (owns (ShrSlice
-            (named 0) κ-versions T.the-row ∷ ShrSlice (named 1) κ-records u64 ∷ K.the-row ∷ []) a at) ∷ []) ∵
-            enter ! C Λ code.function (sliceVal (b-versions, o-versions) m-versions ∷ sliceVal (b-records, o-records)
-            m-records ∷ Value.mach K.the-type K′.the-laws sight ∷ []) _ $
+        (named 0) κ-versions T.the-row ∷ ShrSlice (named 1) κ-records u64 ∷ K.the-row ∷ []) a at) ∷ []) ∵
+        enter ! C Λ code.function (sliceVal (b-versions, o-versions) m-versions ∷ sliceVal (b-records, o-records)
+        m-records ∷ Value.mach K.the-type K′.the-laws sight ∷ []) _ $
         alloc1 ! (λ l-0.
         alloc1 ! (λ l-1.
         alloc1 ! (λ l-2.
@@ -212,7 +249,7 @@ module _ {M : Type 1} (𝓤 : URA M) (H : Heap 𝓤) (A : Atoms 𝓤) (W : Given
         pass1 ! (init ! 8 refl (tt, (tt, (record { fits = room-versions .0 }, tt)))) $
         pass1 ! (init ! 6 refl (tt, (tt, (record { fits = room-records .0 }, tt)))) $
         pass1 ! (init ! 4 refl (Value.typed K.the-type K′.the-laws 𝓤 H A W sight
-            (Value.mach K.the-type K′.the-laws sight) (refl, g-sight))) $
+        (Value.mach K.the-type K′.the-laws sight) (refl, g-sight))) $
         pass0 ! $
         move ! (13 ∷ []) $
         fsplit ! $
@@ -230,68 +267,72 @@ module _ {M : Type 1} (𝓤 : URA M) (H : Heap 𝓤) (A : Atoms 𝓤) (W : Given
         drop ! $
         move ! (3 ∷ []) $
         use1 W (‵ (sees T.the-row b-versions o-versions m-versions κ-versions δ-versions versions) ⊛ ‵
-            (sees T.the-row b-versions o-versions m-versions κ-versions δ-versions versions)) (shr-slice-copy 𝓤 H A W
-            (named 0) κ-versions T.the-row .twice (record { ptr = (b-versions, o-versions); name = δ-versions; now
-            = versions }) (sliceVal (b-versions, o-versions) m-versions ∷ [])) $
+        (sees T.the-row b-versions o-versions m-versions κ-versions δ-versions versions)) (shr-slice-copy 𝓤 H A W
+        (named 0) κ-versions T.the-row .twice (record {
+          ptr = (b-versions, o-versions);
+          name = δ-versions;
+          now
+              = versions;
+        }) (sliceVal (b-versions, o-versions) m-versions ∷ [])) $
         split ! $
         move ! (3 ∷ 0 ∷ []) $
         use2 W (raw (WalkCall 𝓤 H A mem run .pre (to-walk 𝓤 H A W mem run versions (sight .slot) (sight .bound)
-            (sight .position) b-versions o-versions m-versions κ-versions q-versions δ-versions)))
-            (walk-goes 𝓤 H A W mem run versions (sight .slot) (sight .bound) (sight .position)
-            b-versions o-versions m-versions κ-versions q-versions δ-versions
-            (LL.owed K.the-type K′.the-laws sight _ g-sight .1 .0 .1)
-            (LL.owed K.the-type K′.the-laws sight _ g-sight .1 .1 .0 .1)
-            (LL.owed K.the-type K′.the-laws sight _ g-sight .1 .1 .1 .0 .1)) $
+        (sight .position) b-versions o-versions m-versions κ-versions q-versions δ-versions)))
+        (walk-goes 𝓤 H A W mem run versions (sight .slot) (sight .bound) (sight .position)
+        b-versions o-versions m-versions κ-versions q-versions δ-versions
+        (LL.owed K.the-type K′.the-laws sight _ g-sight .1 .0 .1)
+        (LL.owed K.the-type K′.the-laws sight _ g-sight .1 .1 .0 .1)
+        (LL.owed K.the-type K′.the-laws sight _ g-sight .1 .1 .1 .0 .1)) $
         calls-at ! fm (WalkCall 𝓤 H A mem run) k-walk (to-walk 𝓤 H A W mem run versions (sight .slot) (sight .bound)
-            (sight .position) b-versions o-versions m-versions κ-versions q-versions δ-versions) (and-then ! (load !
-            (from ! (stop !)) (look ! 12 refl)) (and-then ! (load ! (from ! (fld ! refl (stop !))) (look-in ! 8
-            (sub ! 1 refl (whole !)))) (and-then ! (load ! (from ! (fld ! refl (stop !))) (look-in ! 8 (sub ! 2 refl
-            (whole !)))) (and-then ! (load ! (from ! (fld ! refl (stop !))) (look-in ! 8 (sub ! 3 refl (whole !))))
-            (no-more !))))) (λ u1.
+        (sight .position) b-versions o-versions m-versions κ-versions q-versions δ-versions) (and-then ! (load !
+        (from ! (stop !)) (look ! 12 refl)) (and-then ! (load ! (from ! (fld ! refl (stop !))) (look-in ! 8
+        (sub ! 1 refl (whole !)))) (and-then ! (load ! (from ! (fld ! refl (stop !))) (look-in ! 8 (sub ! 2 refl
+        (whole !)))) (and-then ! (load ! (from ! (fld ! refl (stop !))) (look-in ! 8 (sub ! 3 refl (whole !))))
+        (no-more !))))) (λ u1.
         use1 W (later (some (λ (x : Unit {0}). given (walk-said 𝓤 H A W mem run versions (sight .slot) (sight .bound)
-            (sight .position) b-versions o-versions m-versions κ-versions q-versions δ-versions u1 x)
-            (‵ (flft κ-versions q-versions))))) (walk-gives 𝓤 H A W mem run versions (sight .slot) (sight .bound)
-            (sight .position) b-versions o-versions m-versions κ-versions q-versions δ-versions u1) $ await ! tt $
-            pick ! (λ x1. learn ! (λ s1.
+        (sight .position) b-versions o-versions m-versions κ-versions q-versions δ-versions u1 x)
+        (‵ (flft κ-versions q-versions))))) (walk-gives 𝓤 H A W mem run versions (sight .slot) (sight .bound)
+        (sight .position) b-versions o-versions m-versions κ-versions q-versions δ-versions u1) $ await ! tt $
+        pick ! (λ x1. learn ! (λ s1.
         land ! (from ! (stop !)) (init ! 6 refl (Choice.typed E.the-type E′.the-laws tt 𝓤 H A W (walkedOf versions
-            (sight .slot) (sight .bound) (sight .position)) u1 (s1))) $
+        (sight .slot) (sight .bound) (sight .position)) u1 (s1))) $
         rewrite ! 6 (λ (z : Val). ‵ (fat fullShare (τ 4) l-4 0 z)) (s1 .0) refl $
         move ! (3 ∷ []) $
         use1 W (‵ (sees u64 b-records o-records m-records κ-records δ-records records) ⊛ ‵
-            (sees u64 b-records o-records m-records κ-records δ-records records)) (shr-slice-copy 𝓤 H A W (named 0)
-            κ-records u64 .twice (record { ptr = (b-records, o-records); name = δ-records; now = records }) (sliceVal
-            (b-records, o-records) m-records ∷ [])) $
+        (sees u64 b-records o-records m-records κ-records δ-records records)) (shr-slice-copy 𝓤 H A W (named 0)
+        κ-records u64 .twice (record { ptr = (b-records, o-records); name = δ-records; now = records }) (sliceVal
+        (b-records, o-records) m-records ∷ [])) $
         split ! $
         move ! (4 ∷ 0 ∷ []) $
         use2 W (raw (NumberAt 𝓤 H A mem run .pre (to-number-at 𝓤 H A W mem run records (sight .number)
-            b-records o-records m-records κ-records q-records δ-records))) (number-at-goes 𝓤 H A W mem run records
-            (sight .number) b-records o-records m-records κ-records q-records δ-records
-            (LL.owed K.the-type K′.the-laws sight _ g-sight .0 .1)) $
+        b-records o-records m-records κ-records q-records δ-records))) (number-at-goes 𝓤 H A W mem run records
+        (sight .number) b-records o-records m-records κ-records q-records δ-records
+        (LL.owed K.the-type K′.the-laws sight _ g-sight .0 .1)) $
         calls-at ! fm (NumberAt 𝓤 H A mem run) k-number-at (to-number-at 𝓤 H A W mem run records (sight .number)
-            b-records o-records m-records κ-records q-records δ-records) (and-then ! (load ! (from ! (stop !))
-            (look ! 10 refl)) (and-then ! (load ! (from ! (fld ! refl (stop !))) (look-in ! 8 (sub ! 0 refl
-            (whole !)))) (no-more !))) (λ u2.
+        b-records o-records m-records κ-records q-records δ-records) (and-then ! (load ! (from ! (stop !))
+        (look ! 10 refl)) (and-then ! (load ! (from ! (fld ! refl (stop !))) (look-in ! 8 (sub ! 0 refl
+        (whole !)))) (no-more !))) (λ u2.
         use1 W (later (some (λ (x : Unit {0}). given (number-at-said 𝓤 H A W mem run records (sight .number)
-            b-records o-records m-records κ-records q-records δ-records u2 x) (‵ (flft κ-records q-records)))))
-            (number-at-gives 𝓤 H A W mem run records (sight .number)
-            b-records o-records m-records κ-records q-records δ-records u2) $ await ! tt $ pick ! (λ x2. learn ! (λ s2.
+        b-records o-records m-records κ-records q-records δ-records u2 x) (‵ (flft κ-records q-records)))))
+        (number-at-gives 𝓤 H A W mem run records (sight .number)
+        b-records o-records m-records κ-records q-records δ-records u2) $ await ! tt $ pick ! (λ x2. learn ! (λ s2.
         land ! (from ! (stop !)) (init ! 4 refl (num-typed w64 u2 (getD records (sight .number) 0) (s2))) $
         rewrite ! 4 (λ (z : Val). ‵ (fat fullShare (τ 5) l-5 0 z)) (s2 .0) refl $
         use0 W (raw (SeenBy 𝓤 H A mem run .pre (to-seen-by 𝓤 H A W mem run (walkedOf versions (sight .slot)
-            (sight .bound) (sight .position)) (getD records (sight .number) 0)))) (seen-by-goes 𝓤 H A W mem run
-            (walkedOf versions (sight .slot) (sight .bound) (sight .position)) (getD records (sight .number) 0)
-            (s1 .1) (s2 .1)) $
+        (sight .bound) (sight .position)) (getD records (sight .number) 0)))) (seen-by-goes 𝓤 H A W mem run
+        (walkedOf versions (sight .slot) (sight .bound) (sight .position)) (getD records (sight .number) 0)
+        (s1 .1) (s2 .1)) $
         calls-at ! fm (SeenBy 𝓤 H A mem run) k-seen-by (to-seen-by 𝓤 H A W mem run (walkedOf versions (sight .slot)
-            (sight .bound) (sight .position)) (getD records (sight .number) 0)) (and-then ! (load ! (from ! (stop !))
-            (look ! 7 refl)) (and-then ! (load ! (from ! (stop !)) (look ! 5 refl)) (no-more !))) (λ u3.
+        (sight .bound) (sight .position)) (getD records (sight .number) 0)) (and-then ! (load ! (from ! (stop !))
+        (look ! 7 refl)) (and-then ! (load ! (from ! (stop !)) (look ! 5 refl)) (no-more !))) (λ u3.
         use1 W (later (some (λ (x : Unit {0}). given (seen-by-said 𝓤 H A W mem run (walkedOf versions (sight .slot)
-            (sight .bound) (sight .position)) (getD records (sight .number) 0) u3 x) (raw (emp 𝓤)))))
-            (seen-by-gives 𝓤 H A W mem run (walkedOf versions (sight .slot) (sight .bound) (sight .position))
-            (getD records (sight .number) 0) u3) $ await ! tt $ pick ! (λ x3. learn ! (λ s3.
+        (sight .bound) (sight .position)) (getD records (sight .number) 0) u3 x) (raw (emp 𝓤)))))
+        (seen-by-gives 𝓤 H A W mem run (walkedOf versions (sight .slot) (sight .bound) (sight .position))
+        (getD records (sight .number) 0) u3) $ await ! tt $ pick ! (λ x3. learn ! (λ s3.
         drop ! $
         land ! (from ! (stop !)) (init ! 14 refl (Choice.typed N.the-type N′.the-laws tt 𝓤 H A W (seenOf
-            (walkedOf versions (sight .slot) (sight .bound) (sight .position)) (getD records (sight .number) 0)) u3
-            (s3))) $
+        (walkedOf versions (sight .slot) (sight .bound) (sight .position)) (getD records (sight .number) 0)) u3
+        (s3))) $
         rewrite ! 14 (λ (z : Val). ‵ (fat fullShare (τ 0) l-0 0 z)) (s3 .0) refl $
         returns ! (look ! 14 refl) $
         forget ! 14 refl $
@@ -315,7 +356,7 @@ module _ {M : Type 1} (𝓤 : URA M) (H : Heap 𝓤) (A : Atoms 𝓤) (W : Given
         free0 ! $
         move ! (3 ∷ 2 ∷ 1 ∷ 0 ∷ []) $
         by ! (exits (seenOf (walkedOf versions (sight .slot) (sight .bound) (sight .position)) (getD records
-            (sight .number) 0))  (looked-is versions records sight)  (s3 .1)))))))))))))))))
+        (sight .number) 0)) (looked-is versions records sight) (s3 .1)))))))))))))))))
 
 module _ {M : Type 1} (𝓤 : URA M) (H : Heap 𝓤) (A : Atoms 𝓤) (W : Given 𝓤 H A) (mem : Memory
     → SProp 𝓤) (run : Routine → Fun 𝓤) where
@@ -324,22 +365,35 @@ module _ {M : Type 1} (𝓤 : URA M) (H : Heap 𝓤) (A : Atoms 𝓤) (W : Given
       → Walks 𝓤 H A own.ended stayed (WpFn 𝓤 H (𝓣 .C) (𝓣 .Λ) code.function) (own.clauses 𝓤 H A mem run)
   own-walks 𝓣 k-walk k-number-at k-seen-by =
       walked 𝓤 H A own.ended stayed (own.clauses 𝓤 H A mem run) (WpFn 𝓤 H (𝓣 .C) (𝓣 .Λ) code.function) (λ κs.
-          (slice-vals, (slice-vals, (LL.vals K.the-type K′.the-laws, tt)))) (λ κs.
-          (shr-slice-tells (named 0) (κs .0) T.the-row, (shr-slice-tells (named 1) (κs .1 .0) u64,
-          (LL.tells K.the-type K′.the-laws, tt)))) (λ κs qs bounds a g are.
-          via 𝓤 _ (fst∗ 𝓤 _ (emp 𝓤)) (walk 𝓤 H A W mem run (κs .0) (κs .1 .0) bounds (qs .0) (qs .1 .0)
-          (a .0 .ptr .0) (a .0 .ptr .1) (a .0 .name) (a .0 .now) (a .1 .0 .ptr .0) (a .1 .0 .ptr .1) (a .1 .0 .name)
-          (a .1 .0 .now) (a .1 .1 .0) (are .0 .0 .1) (are .1 .0 .0 .1) (are .1 .1 .0) 𝓣 k-walk k-number-at k-seen-by))
+      (slice-vals, (slice-vals, (LL.vals K.the-type K′.the-laws, tt)))) (λ κs. (
+        shr-slice-tells (named 0) (κs .0) T.the-row,
+        (
+          shr-slice-tells (named 1) (κs .1 .0) u64,
+          (LL.tells K.the-type K′.the-laws, tt),
+        ),
+      )) (λ κs qs bounds a g are.
+      via 𝓤 _ (fst∗ 𝓤 _ (emp 𝓤)) (walk 𝓤 H A W mem run (κs .0) (κs .1 .0) bounds (qs .0) (qs .1 .0)
+      (a .0 .ptr .0) (a .0 .ptr .1) (a .0 .name) (a .0 .now) (a .1 .0 .ptr .0) (a .1 .0 .ptr .1) (a .1 .0 .name)
+      (a .1 .0 .now) (a .1 .1 .0) (are .0 .0 .1) (are .1 .0 .0 .1) (are .1 .1 .0) 𝓣 k-walk k-number-at k-seen-by))
 
 own-meets : {M : Type 1} (𝓤 : URA M) (H : Heap 𝓤) (A : Atoms 𝓤) → Given 𝓤 H A → (mem : Memory
     → SProp 𝓤) (run : Routine → Fun 𝓤) (𝓣 : Tables 𝓤 H) → Triple 𝓤 (𝓣 .C #walk) (WalkCall 𝓤 H A mem run)
     → Triple 𝓤 (𝓣 .C #number-at) (NumberAt 𝓤 H A mem run) → Triple 𝓤 (𝓣 .C #seen-by) (SeenBy 𝓤 H A mem run)
     → Meets 𝓤 H A own.signature (WpFn 𝓤 H (𝓣 .C) (𝓣 .Λ) code.function) (own.spec 𝓤 H A mem run)
 own-meets 𝓤 H A W mem run 𝓣 k-walk k-number-at k-seen-by =
-    walk-meets 𝓤 H A own.ended stayed W (goes-none-slice 𝓤 H A W 2 (0 ∷ []) tt (plain (λ _.
-        T.the-row)) yes, (goes-none-slice 𝓤 H A W 2 (1 ∷ []) tt (plain (λ _. u64)) yes, (goes-none 𝓤 H A W 2 (λ _.
-        K.the-row) yes (λ κs x f. refl), tt))) (own.clauses 𝓤 H A mem run) (WpFn 𝓤 H (𝓣 .C) (𝓣 .Λ) code.function)
-        (WpFn-mono 𝓤 H (W .laws) 𝓣 code.function) (own-walks 𝓤 H A W mem run 𝓣 k-walk k-number-at k-seen-by)
+    walk-meets 𝓤 H A own.ended stayed W (
+      goes-none-slice 𝓤 H A W 2 (0 ∷ []) tt (plain (λ _.
+          T.the-row)) yes,
+      (
+        goes-none-slice 𝓤 H A W 2 (1 ∷ []) tt (plain (λ _. u64)) yes,
+        (
+          goes-none 𝓤 H A W 2 (λ _.
+              K.the-row) yes (λ κs x f. refl),
+          tt,
+        ),
+      ),
+    ) (own.clauses 𝓤 H A mem run) (WpFn 𝓤 H (𝓣 .C) (𝓣 .Λ) code.function)
+    (WpFn-mono 𝓤 H (W .laws) 𝓣 code.function) (own-walks 𝓤 H A W mem run 𝓣 k-walk k-number-at k-seen-by)
 
 pub looked-spec : {M : Type 1} → stated.statement M
 unfolding code.routine tablesOf
@@ -348,8 +402,8 @@ looked-spec 𝓤 H 𝓜 𝓖 𝓡 =
     (tables 𝓤 H 𝓜 𝓡 code.env .C) (tables 𝓤 H 𝓜 𝓡 code.env .Λ) #own code.function (code.unfolded 𝓤 H 𝓜 𝓡)
     (own-meets 𝓤 H (𝓖 .A) (givenOf 𝓤 H 𝓜 𝓖) (𝓜 .mem) (𝓡 .run) (tablesOf 𝓤 H 𝓜 (tables 𝓤 H 𝓜 𝓡 code.env))
     (cited 𝓤 H (WalkCall 𝓤 H (𝓖 .A) (𝓜 .mem) (𝓡 .run)) 𝓜 𝓡 code.env #walk walk-def.routine code.calls-versions·walk
-        (walk-thm.met 𝓤 H 𝓜 𝓖 𝓡))
+    (walk-thm.met 𝓤 H 𝓜 𝓖 𝓡))
     (cited 𝓤 H (NumberAt 𝓤 H (𝓖 .A) (𝓜 .mem) (𝓡 .run)) 𝓜 𝓡 code.env #number-at number-at-def.routine
-        code.calls-engine·tables·number-at (number-at-thm.met 𝓤 H 𝓜 𝓖 𝓡))
+    code.calls-engine·tables·number-at (number-at-thm.met 𝓤 H 𝓜 𝓖 𝓡))
     (cited 𝓤 H (SeenBy 𝓤 H (𝓖 .A) (𝓜 .mem) (𝓡 .run)) 𝓜 𝓡 code.env #seen-by seen-by-def.routine
-        code.calls-engine·moves·seen-by (seen-by-thm.met 𝓤 H 𝓜 𝓖 𝓡)))
+    code.calls-engine·moves·seen-by (seen-by-thm.met 𝓤 H 𝓜 𝓖 𝓡)))

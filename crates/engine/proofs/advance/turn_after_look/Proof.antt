@@ -131,8 +131,14 @@ use Rattle.engine.proofs.advance.turn_after_look.Code as code
 use Rattle.engine.proofs.advance.turn_after_look.Code.Mir as mir′
 
 abbrev stayed : Stays (own.ended .signature .params) (own.ended .kept)
-stayed = (stay-none-slice (0 ∷ []) tt (plain (λ _. T.the-row)) yes, (stay-none-slice (1 ∷ []) tt (plain (λ _.
-    u64)) yes, (stay-none (λ _. J.the-row) yes, tt)))
+stayed = (
+  stay-none-slice (0 ∷ []) tt (plain (λ _. T.the-row)) yes,
+  (
+    stay-none-slice (1 ∷ []) tt (plain (λ _.
+        u64)) yes,
+    (stay-none (λ _. J.the-row) yes, tt),
+  ),
+)
 
 abbrev τ : ℕ → Ty
 τ = tyAt mir′.locals
@@ -150,32 +156,63 @@ module _ {M : Type 1} (𝓤 : URA M) (H : Heap 𝓤) (A : Atoms 𝓤) (W : Given
   m-records = length records
 
   abbrev a : (RefT (List Version) × (RefT (List ℕ) × (Aim × Unit {0})))
-  a = (record { ptr = (b-versions, o-versions); name = δ-versions; now = versions }, (record { ptr =
-      (b-records, o-records); name = δ-records; now = records }, (aim, tt)))
+  a = (
+    record { ptr = (b-versions, o-versions); name = δ-versions; now = versions },
+    (
+      record {
+        ptr =
+            (b-records, o-records);
+        name = δ-records;
+        now = records;
+      },
+      (aim, tt),
+    ),
+  )
 
   abbrev at : Vals own.signature (κ-versions, (κ-records, tt))
-  at = (sliceVal (b-versions, o-versions) m-versions ∷ [], (sliceVal (b-records, o-records) m-records ∷ [],
-      (Value.mach J.the-type J′.the-laws aim ∷ [], tt)))
+  at = (
+    sliceVal (b-versions, o-versions) m-versions ∷ [],
+    (
+      sliceVal (b-records, o-records) m-records ∷ [],
+      (Value.mach J.the-type J′.the-laws aim ∷ [], tt),
+    ),
+  )
 
   abbrev Post : Val → SProp 𝓤
-  Post = walkOf 𝓤 H A own.ended stayed (own.clauses 𝓤 H A mem run) .post (((κ-versions, (κ-records, tt)),
-      (q-versions, (q-records, tt)), bounds, a, at), tt)
+  Post = walkOf 𝓤 H A own.ended stayed (own.clauses 𝓤 H A mem run) .post (
+    (
+      (κ-versions, (κ-records, tt)),
+      (q-versions, (q-records, tt)),
+      bounds,
+      a,
+      at,
+    ),
+    tt,
+  )
 
-  exits : (h : Turn)  → h ≡ turnAfter versions records aim → Value.Good M′.the-type M′′.the-laws h
+  exits : (h : Turn) → h ≡ turnAfter versions records aim → Value.Good M′.the-type M′′.the-laws h
       → ent 𝓤 (⋆ 𝓤 H A (‵ (sees T.the-row b-versions o-versions m-versions κ-versions δ-versions versions) ∷ ‵
       (flft κ-versions q-versions) ∷ ‵ (sees u64 b-records o-records m-records κ-records δ-records records) ∷ ‵
       (flft κ-records q-records) ∷ [])) (Post (Value.mach M′.the-type M′′.the-laws h))
   exits h e-0 g-h =
       qed W (‵ (sees T.the-row b-versions o-versions m-versions κ-versions δ-versions versions) ∷ ‵
-          (flft κ-versions q-versions) ∷ ‵ (sees u64 b-records o-records m-records κ-records δ-records records) ∷ ‵
-          (flft κ-records q-records) ∷ []) ∵
-          suffices ! _ (ends-at 𝓤 H A own.ended stayed (own.clauses 𝓤 H A mem run) W (((κ-versions, (κ-records, tt)),
-          (q-versions, (q-records, tt)), bounds, a, at), tt) (Value.mach M′.the-type M′′.the-laws h) h
-          (tt, (tt, (tt, tt))) (tt, (tt, (tt, tt)))) $ says ! e-0 $ nothing ! $ move ! (4 ∷ 0 ∷ []) $ join ! $
-          move ! (2 ∷ 0 ∷ []) $ join ! $ frame ! $ nothing ! $
-          owned ! J.the-row (Is J.the-row) (LL.makes J.the-type J′.the-plain 𝓤 H A) aim _ g-aim $ fjoin ! $
-          move ! (2 ∷ 0 ∷ []) $ fjoin ! $ move ! (1 ∷ 0 ∷ []) $ fjoin ! $ frame ! $
-          owned ! M′.the-row (Is M′.the-row) (LL.makes M′.the-type M′′.the-plain 𝓤 H A) h _ g-h $ done !
+      (flft κ-versions q-versions) ∷ ‵ (sees u64 b-records o-records m-records κ-records δ-records records) ∷ ‵
+      (flft κ-records q-records) ∷ []) ∵
+      suffices ! _ (ends-at 𝓤 H A own.ended stayed (own.clauses 𝓤 H A mem run) W (
+        (
+          (κ-versions, (κ-records, tt)),
+          (q-versions, (q-records, tt)),
+          bounds,
+          a,
+          at,
+        ),
+        tt,
+      ) (Value.mach M′.the-type M′′.the-laws h) h
+      (tt, (tt, (tt, tt))) (tt, (tt, (tt, tt)))) $ says ! e-0 $ nothing ! $ move ! (4 ∷ 0 ∷ []) $ join ! $
+      move ! (2 ∷ 0 ∷ []) $ join ! $ frame ! $ nothing ! $
+      owned ! J.the-row (Is J.the-row) (LL.makes J.the-type J′.the-plain 𝓤 H A) aim _ g-aim $ fjoin ! $
+      move ! (2 ∷ 0 ∷ []) $ fjoin ! $ move ! (1 ∷ 0 ∷ []) $ fjoin ! $ frame ! $
+      owned ! M′.the-row (Is M′.the-row) (LL.makes M′.the-type M′′.the-plain 𝓤 H A) h _ g-h $ done !
 
   module _ (𝓣 : Tables 𝓤 H) (k-look-of : Triple 𝓤 (𝓣 .C #look-of) (LookOf 𝓤 H A mem run)) (k-looked : Triple 𝓤
       (𝓣 .C #looked) (Looked 𝓤 H A mem run)) (k-turn-by : Triple 𝓤 (𝓣 .C #turn-by) (TurnBy 𝓤 H A mem run)) where
@@ -193,9 +230,9 @@ module _ {M : Type 1} (𝓤 : URA M) (H : Heap 𝓤) (A : Atoms 𝓤) (W : Given
         m-records ∷ Value.mach J.the-type J′.the-laws aim ∷ []) Post)
     walk =
         qed W ((‵ (flft κ-versions q-versions) ⊛ ‵ (flft κ-records q-records) ⊛ ‵ ftrue) ∷ ‵ (owns (ShrSlice
-            (named 0) κ-versions T.the-row ∷ ShrSlice (named 1) κ-records u64 ∷ J.the-row ∷ []) a at) ∷ []) ∵
-            enter ! C Λ code.function (sliceVal (b-versions, o-versions) m-versions ∷ sliceVal (b-records, o-records)
-            m-records ∷ Value.mach J.the-type J′.the-laws aim ∷ []) _ $
+        (named 0) κ-versions T.the-row ∷ ShrSlice (named 1) κ-records u64 ∷ J.the-row ∷ []) a at) ∷ []) ∵
+        enter ! C Λ code.function (sliceVal (b-versions, o-versions) m-versions ∷ sliceVal (b-records, o-records)
+        m-records ∷ Value.mach J.the-type J′.the-laws aim ∷ []) _ $
         alloc1 ! (λ l-0.
         alloc1 ! (λ l-1.
         alloc1 ! (λ l-2.
@@ -207,7 +244,7 @@ module _ {M : Type 1} (𝓤 : URA M) (H : Heap 𝓤) (A : Atoms 𝓤) (W : Given
         pass1 ! (init ! 8 refl (tt, (tt, (record { fits = room-versions .0 }, tt)))) $
         pass1 ! (init ! 6 refl (tt, (tt, (record { fits = room-records .0 }, tt)))) $
         pass1 ! (init ! 4 refl (Value.typed J.the-type J′.the-laws 𝓤 H A W aim
-            (Value.mach J.the-type J′.the-laws aim) (refl, g-aim))) $
+        (Value.mach J.the-type J′.the-laws aim) (refl, g-aim))) $
         pass0 ! $
         move ! (13 ∷ []) $
         fsplit ! $
@@ -224,58 +261,62 @@ module _ {M : Type 1} (𝓤 : URA M) (H : Heap 𝓤) (A : Atoms 𝓤) (W : Given
         move ! (1 ∷ []) $
         drop ! $
         use0 W (raw (LookOf 𝓤 H A mem run .pre (to-look-of 𝓤 H A W mem run aim)))
-            (look-of-goes 𝓤 H A W mem run aim g-aim) $
+        (look-of-goes 𝓤 H A W mem run aim g-aim) $
         calls-at ! fm (LookOf 𝓤 H A mem run) k-look-of (to-look-of 𝓤 H A W mem run aim) (and-then ! (load ! (from !
-            (stop !)) (look ! 9 refl)) (no-more !)) (λ u1.
+        (stop !)) (look ! 9 refl)) (no-more !)) (λ u1.
         use1 W (later (some (λ (x : Unit {0}). given (look-of-said 𝓤 H A W mem run aim u1 x) (raw (emp 𝓤)))))
-            (look-of-gives 𝓤 H A W mem run aim u1) $ await ! tt $ pick ! (λ x1. learn ! (λ s1.
+        (look-of-gives 𝓤 H A W mem run aim u1) $ await ! tt $ pick ! (λ x1. learn ! (λ s1.
         drop ! $
         land ! (from ! (stop !)) (init ! 6 refl (Value.typed K.the-type K′.the-laws 𝓤 H A W (aim .look) u1 (s1))) $
         rewrite ! 6 (λ (z : Val). ‵ (fat fullShare (τ 4) l-4 0 z)) (s1 .0) refl $
         move ! (3 ∷ []) $
         use1 W (‵ (sees T.the-row b-versions o-versions m-versions κ-versions δ-versions versions) ⊛ ‵
-            (sees T.the-row b-versions o-versions m-versions κ-versions δ-versions versions)) (shr-slice-copy 𝓤 H A W
-            (named 0) κ-versions T.the-row .twice (record { ptr = (b-versions, o-versions); name = δ-versions; now
-            = versions }) (sliceVal (b-versions, o-versions) m-versions ∷ [])) $
+        (sees T.the-row b-versions o-versions m-versions κ-versions δ-versions versions)) (shr-slice-copy 𝓤 H A W
+        (named 0) κ-versions T.the-row .twice (record {
+          ptr = (b-versions, o-versions);
+          name = δ-versions;
+          now
+              = versions;
+        }) (sliceVal (b-versions, o-versions) m-versions ∷ [])) $
         split ! $
         move ! (4 ∷ []) $
         use1 W (‵ (sees u64 b-records o-records m-records κ-records δ-records records) ⊛ ‵
-            (sees u64 b-records o-records m-records κ-records δ-records records)) (shr-slice-copy 𝓤 H A W (named 0)
-            κ-records u64 .twice (record { ptr = (b-records, o-records); name = δ-records; now = records }) (sliceVal
-            (b-records, o-records) m-records ∷ [])) $
+        (sees u64 b-records o-records m-records κ-records δ-records records)) (shr-slice-copy 𝓤 H A W (named 0)
+        κ-records u64 .twice (record { ptr = (b-records, o-records); name = δ-records; now = records }) (sliceVal
+        (b-records, o-records) m-records ∷ [])) $
         split ! $
         move ! (5 ∷ 2 ∷ 4 ∷ 0 ∷ []) $
         use4 W (raw (Looked 𝓤 H A mem run .pre (to-looked 𝓤 H A W mem run versions records (aim .look)
-            b-versions o-versions m-versions b-records o-records m-records κ-versions q-versions δ-versions κ-records
-            q-records δ-records))) (looked-goes 𝓤 H A W mem run versions records (aim .look)
-            b-versions o-versions m-versions b-records o-records m-records κ-versions q-versions δ-versions κ-records
-            q-records δ-records (s1 .1)) $
+        b-versions o-versions m-versions b-records o-records m-records κ-versions q-versions δ-versions κ-records
+        q-records δ-records))) (looked-goes 𝓤 H A W mem run versions records (aim .look)
+        b-versions o-versions m-versions b-records o-records m-records κ-versions q-versions δ-versions κ-records
+        q-records δ-records (s1 .1)) $
         calls-at ! fm (Looked 𝓤 H A mem run) k-looked (to-looked 𝓤 H A W mem run versions records (aim .look)
-            b-versions o-versions m-versions b-records o-records m-records κ-versions q-versions δ-versions κ-records
-            q-records δ-records) (and-then ! (load ! (from ! (stop !)) (look ! 11 refl)) (and-then ! (load ! (from !
-            (stop !)) (look ! 9 refl)) (and-then ! (load ! (from ! (stop !)) (look ! 5 refl)) (no-more !)))) (λ u2.
+        b-versions o-versions m-versions b-records o-records m-records κ-versions q-versions δ-versions κ-records
+        q-records δ-records) (and-then ! (load ! (from ! (stop !)) (look ! 11 refl)) (and-then ! (load ! (from !
+        (stop !)) (look ! 9 refl)) (and-then ! (load ! (from ! (stop !)) (look ! 5 refl)) (no-more !)))) (λ u2.
         use1 W (later (some (λ (x : Unit {0}). given (looked-said 𝓤 H A W mem run versions records (aim .look)
-            b-versions o-versions m-versions b-records o-records m-records κ-versions q-versions δ-versions κ-records
-            q-records δ-records u2 x) (‵ (flft κ-versions q-versions) ⊛ ‵ (flft κ-records q-records)))))
-            (looked-gives 𝓤 H A W mem run versions records (aim .look) b-versions o-versions m-versions b-records
-            o-records m-records κ-versions q-versions δ-versions κ-records q-records δ-records u2) $ await ! tt $
-            pick ! (λ x2. learn ! (λ s2.
+        b-versions o-versions m-versions b-records o-records m-records κ-versions q-versions δ-versions κ-records
+        q-records δ-records u2 x) (‵ (flft κ-versions q-versions) ⊛ ‵ (flft κ-records q-records)))))
+        (looked-gives 𝓤 H A W mem run versions records (aim .look) b-versions o-versions m-versions b-records
+        o-records m-records κ-versions q-versions δ-versions κ-records q-records δ-records u2) $ await ! tt $
+        pick ! (λ x2. learn ! (λ s2.
         split ! $
         move ! (1 ∷ []) $
         land ! (from ! (stop !)) (init ! 4 refl (Choice.typed N.the-type N′.the-laws tt 𝓤 H A W
-            (lookedBy versions records (aim .look)) u2 (s2))) $
+        (lookedBy versions records (aim .look)) u2 (s2))) $
         rewrite ! 4 (λ (z : Val). ‵ (fat fullShare (τ 5) l-5 0 z)) (s2 .0) refl $
         use0 W (raw (TurnBy 𝓤 H A mem run .pre (to-turn-by 𝓤 H A W mem run aim (lookedBy versions records
-            (aim .look))))) (turn-by-goes 𝓤 H A W mem run aim (lookedBy versions records (aim .look)) g-aim (s2 .1)) $
+        (aim .look))))) (turn-by-goes 𝓤 H A W mem run aim (lookedBy versions records (aim .look)) g-aim (s2 .1)) $
         calls-at ! fm (TurnBy 𝓤 H A mem run) k-turn-by (to-turn-by 𝓤 H A W mem run aim (lookedBy versions records
-            (aim .look))) (and-then ! (load ! (from ! (stop !)) (look ! 9 refl)) (and-then ! (load ! (from !
-            (stop !)) (look ! 5 refl)) (no-more !))) (λ u3.
+        (aim .look))) (and-then ! (load ! (from ! (stop !)) (look ! 9 refl)) (and-then ! (load ! (from !
+        (stop !)) (look ! 5 refl)) (no-more !))) (λ u3.
         use1 W (later (some (λ (x : Unit {0}). given (turn-by-said 𝓤 H A W mem run aim (lookedBy versions records
-            (aim .look)) u3 x) (raw (emp 𝓤))))) (turn-by-gives 𝓤 H A W mem run aim (lookedBy versions records
-            (aim .look)) u3) $ await ! tt $ pick ! (λ x3. learn ! (λ s3.
+        (aim .look)) u3 x) (raw (emp 𝓤))))) (turn-by-gives 𝓤 H A W mem run aim (lookedBy versions records
+        (aim .look)) u3) $ await ! tt $ pick ! (λ x3. learn ! (λ s3.
         drop ! $
         land ! (from ! (stop !)) (init ! 14 refl (Value.typed M′.the-type M′′.the-laws 𝓤 H A W (turnBy aim
-            (lookedBy versions records (aim .look))) u3 (s3))) $
+        (lookedBy versions records (aim .look))) u3 (s3))) $
         rewrite ! 14 (λ (z : Val). ‵ (fat fullShare (τ 0) l-0 0 z)) (s3 .0) refl $
         returns ! (look ! 14 refl) $
         forget ! 14 refl $
@@ -298,8 +339,8 @@ module _ {M : Type 1} (𝓤 : URA M) (H : Heap 𝓤) (A : Atoms 𝓤) (W : Given
         free1 ! $
         free0 ! $
         move ! (3 ∷ 1 ∷ 2 ∷ 0 ∷ []) $
-        by ! (exits (turnBy aim (lookedBy versions records (aim .look)))  (turn-after versions records aim)
-            (s3 .1)))))))))))))))))
+        by ! (exits (turnBy aim (lookedBy versions records (aim .look))) (turn-after versions records aim)
+        (s3 .1)))))))))))))))))
 
 module _ {M : Type 1} (𝓤 : URA M) (H : Heap 𝓤) (A : Atoms 𝓤) (W : Given 𝓤 H A) (mem : Memory
     → SProp 𝓤) (run : Routine → Fun 𝓤) where
@@ -308,22 +349,35 @@ module _ {M : Type 1} (𝓤 : URA M) (H : Heap 𝓤) (A : Atoms 𝓤) (W : Given
       → Walks 𝓤 H A own.ended stayed (WpFn 𝓤 H (𝓣 .C) (𝓣 .Λ) code.function) (own.clauses 𝓤 H A mem run)
   own-walks 𝓣 k-look-of k-looked k-turn-by =
       walked 𝓤 H A own.ended stayed (own.clauses 𝓤 H A mem run) (WpFn 𝓤 H (𝓣 .C) (𝓣 .Λ) code.function) (λ κs.
-          (slice-vals, (slice-vals, (LL.vals J.the-type J′.the-laws, tt)))) (λ κs.
-          (shr-slice-tells (named 0) (κs .0) T.the-row, (shr-slice-tells (named 1) (κs .1 .0) u64,
-          (LL.tells J.the-type J′.the-laws, tt)))) (λ κs qs bounds a g are.
-          via 𝓤 _ (fst∗ 𝓤 _ (emp 𝓤)) (walk 𝓤 H A W mem run (κs .0) (κs .1 .0) bounds (qs .0) (qs .1 .0)
-          (a .0 .ptr .0) (a .0 .ptr .1) (a .0 .name) (a .0 .now) (a .1 .0 .ptr .0) (a .1 .0 .ptr .1) (a .1 .0 .name)
-          (a .1 .0 .now) (a .1 .1 .0) (are .0 .0 .1) (are .1 .0 .0 .1) (are .1 .1 .0) 𝓣 k-look-of k-looked k-turn-by))
+      (slice-vals, (slice-vals, (LL.vals J.the-type J′.the-laws, tt)))) (λ κs. (
+        shr-slice-tells (named 0) (κs .0) T.the-row,
+        (
+          shr-slice-tells (named 1) (κs .1 .0) u64,
+          (LL.tells J.the-type J′.the-laws, tt),
+        ),
+      )) (λ κs qs bounds a g are.
+      via 𝓤 _ (fst∗ 𝓤 _ (emp 𝓤)) (walk 𝓤 H A W mem run (κs .0) (κs .1 .0) bounds (qs .0) (qs .1 .0)
+      (a .0 .ptr .0) (a .0 .ptr .1) (a .0 .name) (a .0 .now) (a .1 .0 .ptr .0) (a .1 .0 .ptr .1) (a .1 .0 .name)
+      (a .1 .0 .now) (a .1 .1 .0) (are .0 .0 .1) (are .1 .0 .0 .1) (are .1 .1 .0) 𝓣 k-look-of k-looked k-turn-by))
 
 own-meets : {M : Type 1} (𝓤 : URA M) (H : Heap 𝓤) (A : Atoms 𝓤) → Given 𝓤 H A → (mem : Memory
     → SProp 𝓤) (run : Routine → Fun 𝓤) (𝓣 : Tables 𝓤 H) → Triple 𝓤 (𝓣 .C #look-of) (LookOf 𝓤 H A mem run)
     → Triple 𝓤 (𝓣 .C #looked) (Looked 𝓤 H A mem run) → Triple 𝓤 (𝓣 .C #turn-by) (TurnBy 𝓤 H A mem run)
     → Meets 𝓤 H A own.signature (WpFn 𝓤 H (𝓣 .C) (𝓣 .Λ) code.function) (own.spec 𝓤 H A mem run)
 own-meets 𝓤 H A W mem run 𝓣 k-look-of k-looked k-turn-by =
-    walk-meets 𝓤 H A own.ended stayed W (goes-none-slice 𝓤 H A W 2 (0 ∷ []) tt (plain (λ _.
-        T.the-row)) yes, (goes-none-slice 𝓤 H A W 2 (1 ∷ []) tt (plain (λ _. u64)) yes, (goes-none 𝓤 H A W 2 (λ _.
-        J.the-row) yes (λ κs x f. refl), tt))) (own.clauses 𝓤 H A mem run) (WpFn 𝓤 H (𝓣 .C) (𝓣 .Λ) code.function)
-        (WpFn-mono 𝓤 H (W .laws) 𝓣 code.function) (own-walks 𝓤 H A W mem run 𝓣 k-look-of k-looked k-turn-by)
+    walk-meets 𝓤 H A own.ended stayed W (
+      goes-none-slice 𝓤 H A W 2 (0 ∷ []) tt (plain (λ _.
+          T.the-row)) yes,
+      (
+        goes-none-slice 𝓤 H A W 2 (1 ∷ []) tt (plain (λ _. u64)) yes,
+        (
+          goes-none 𝓤 H A W 2 (λ _.
+              J.the-row) yes (λ κs x f. refl),
+          tt,
+        ),
+      ),
+    ) (own.clauses 𝓤 H A mem run) (WpFn 𝓤 H (𝓣 .C) (𝓣 .Λ) code.function)
+    (WpFn-mono 𝓤 H (W .laws) 𝓣 code.function) (own-walks 𝓤 H A W mem run 𝓣 k-look-of k-looked k-turn-by)
 
 pub turn-after-look-spec : {M : Type 1} → stated.statement M
 unfolding code.routine tablesOf
@@ -332,8 +386,8 @@ turn-after-look-spec 𝓤 H 𝓜 𝓖 𝓡 =
     (tables 𝓤 H 𝓜 𝓡 code.env .C) (tables 𝓤 H 𝓜 𝓡 code.env .Λ) #own code.function (code.unfolded 𝓤 H 𝓜 𝓡)
     (own-meets 𝓤 H (𝓖 .A) (givenOf 𝓤 H 𝓜 𝓖) (𝓜 .mem) (𝓡 .run) (tablesOf 𝓤 H 𝓜 (tables 𝓤 H 𝓜 𝓡 code.env))
     (cited 𝓤 H (LookOf 𝓤 H (𝓖 .A) (𝓜 .mem) (𝓡 .run)) 𝓜 𝓡 code.env #look-of look-of-def.routine
-        code.calls-engine·advance·look-of (look-of-thm.met 𝓤 H 𝓜 𝓖 𝓡))
+    code.calls-engine·advance·look-of (look-of-thm.met 𝓤 H 𝓜 𝓖 𝓡))
     (cited 𝓤 H (Looked 𝓤 H (𝓖 .A) (𝓜 .mem) (𝓡 .run))
-        𝓜 𝓡 code.env #looked looked-def.routine code.calls-engine·advance·looked (looked-thm.met 𝓤 H 𝓜 𝓖 𝓡))
+    𝓜 𝓡 code.env #looked looked-def.routine code.calls-engine·advance·looked (looked-thm.met 𝓤 H 𝓜 𝓖 𝓡))
     (cited 𝓤 H (TurnBy 𝓤 H (𝓖 .A) (𝓜 .mem) (𝓡 .run)) 𝓜 𝓡 code.env #turn-by turn-by-def.routine
-        code.calls-engine·advance·turn-by (turn-by-thm.met 𝓤 H 𝓜 𝓖 𝓡)))
+    code.calls-engine·advance·turn-by (turn-by-thm.met 𝓤 H 𝓜 𝓖 𝓡)))

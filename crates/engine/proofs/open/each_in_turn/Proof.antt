@@ -22,7 +22,8 @@ abbrev μ-loop : tie.MeasureT-loop
 -- src/open.rt:45:5
 loop-holds : tie.Need-loop-holds Inv-loop μ-loop
 loop-holds c =
-    (zero-le, turns-begin _ _ _)
+    let args = c .before .args in
+    (zero-le, turns-begin (args .n) (args .log .now) (args .count))
 
 -- src/open.rt:46:13
 unpack-at-requires : tie.Need-unpack-at-requires Inv-loop μ-loop
@@ -61,11 +62,10 @@ loop-less c =
 loop-again : tie.Need-loop-again Inv-loop μ-loop
 loop-again c =
     let at = c .before .before .before .before in
-    let told = ap (λ u. u .verdict) (c .before .before .unpack-at .ensures) in
-    (
+    let told = ap (λ u. u .verdict) (c .before .before .unpack-at .ensures) in (
       omega arith,
       turn-passed _ _ _ _ _ (c .before .before .before .loop-test .taken) (at .loop .inv .1)
-      (sym told ∙ c .enum-told .given .1)
+          (sym told ∙ c .enum-told .given .1),
     )
 
 -- src/open.rt:41:1

@@ -51,10 +51,13 @@ loop-again c =
     let inv = c .before .loop .inv in
     let entry = c .before .before .before .args .newest .now in
     let same = inv .1 .0 in
-    let within : c .before .loop .r < length (c .before .loop .newest) = c .loop-test .taken in
-    (omega (arith, same, within),
-    (length-set (c .before .loop .newest) (c .before .loop .r) 65535 ∙ same,
-    filled-again 65535 (c .before .loop .r) entry (c .before .loop .newest) (inv .1 .1)))
+    let within : c .before .loop .r < length (c .before .loop .newest) = c .loop-test .taken in (
+      omega (arith, same, within),
+      (
+        length-set (c .before .loop .newest) (c .before .loop .r) 65535 ∙ same,
+        filled-again 65535 (c .before .loop .r) entry (c .before .loop .newest) (inv .1 .1),
+      ),
+    )
 
 -- src/tables.rt:22:1
 same-length : tie.Need-same-length Inv-loop μ-loop

@@ -51,10 +51,13 @@ loop-again c =
     let inv = c .before .loop .inv in
     let entry = c .before .before .before .args .results .now in
     let same = inv .1 .0 in
-    let within : c .before .loop .k < length (c .before .loop .results) = c .loop-test .taken in
-    (omega (arith, same, within),
-    (length-set (c .before .loop .results) (c .before .loop .k) 0 ∙ same,
-    filled-again 0 (c .before .loop .k) entry (c .before .loop .results) (inv .1 .1)))
+    let within : c .before .loop .k < length (c .before .loop .results) = c .loop-test .taken in (
+      omega (arith, same, within),
+      (
+        length-set (c .before .loop .results) (c .before .loop .k) 0 ∙ same,
+        filled-again 0 (c .before .loop .k) entry (c .before .loop .results) (inv .1 .1),
+      ),
+    )
 
 -- src/tables.rt:35:1
 same-length : tie.Need-same-length Inv-loop μ-loop
