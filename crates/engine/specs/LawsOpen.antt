@@ -48,7 +48,8 @@ turn : (n : ℕ) (log : List ℕ) (count index : ℕ) → index < count
 turn n log count index below =
     let one-less : count - index ≡ suc (count - (index + 1)) = omega arith in
     ap (λ k. eachInTurn n log k index) one-less
-    ∙ ap (λ k. andThen (unpackAtOf n log index .verdict) (eachInTurn n log (count - (index + 1)) k)) (sym (add-one index))
+    ∙ ap (λ k. andThen (unpackAtOf n log index .verdict) (eachInTurn n log (count - (index + 1)) k))
+    (sym (add-one index))
 
 -- its verdict lets it pass: the rest decides;
 pub turn-passed : (n : ℕ) (log : List ℕ) (count index : ℕ) (all : Verdict) → index < count

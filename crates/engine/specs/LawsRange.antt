@@ -79,7 +79,8 @@ in-range s none =
 pub placed-most : (s : State) → InRange s → (p : ℕ) → p < 8 → placedBy s p ≤ s .size
 placed-most s ranged p there =
     ltb-false (s .size) (placedBy s p)
-    (not-left (ltb (s .size) (placedBy s p)) (leb (s .partitions) p && not (eqb (placedBy s p) 0)) (ranged .placed p there))
+    (not-left (ltb (s .size) (placedBy s p)) (leb (s .partitions) p && not (eqb (placedBy s p) 0))
+    (ranged .placed p there))
 
 -- a worker that is not idle holds a transaction of the batch
 pub holds-below : (s : State) → InRange s → (w : ℕ) → w < 8 → isIdle (workerAt s w) ≡ false

@@ -95,7 +95,9 @@ module _ (s : State) (records newest : List ℕ) (versions : List Version) where
   seal-versions = clear-all versions (isAccepted (comesTo .verdict)) ∙ go said
     where
       go : (v : Verdict)
-          → cond (isAccepted (sealingBy v (s .next .0 + s .size) (s .batch .0 + 1) .verdict)) (allEmpty versions) versions
+          → cond (isAccepted (sealingBy v (s .next .0 + s .size) (s .batch .0 + 1) .verdict))
+          (allEmpty versions)
+          versions
           ≡ sealedBy v s records newest versions .versions
       go Accepted = refl
       go (Refused refusal place) = refl

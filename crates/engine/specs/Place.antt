@@ -1,6 +1,6 @@
--- "Place, partition p. Takes the partition's next transaction. For each write in that partition, ascending: begin is its
--- position, end 2^64 − 1, previous is the newest slot, not produced; a preceding entry's end becomes this position; the
--- new slot becomes newest. A transaction with no such write only advances the count."
+-- "Place, partition p. Takes the partition's next transaction. For each write in that partition, ascending: begin is
+-- its position, end 2^64 − 1, previous is the newest slot, not produced; a preceding entry's end becomes this
+-- position; the new slot becomes newest. A transaction with no such write only advances the count."
 use Prim.Native.Nat.{ℕ, zero, suc, _+_, _*_, _%_}
 use mathlib.Core.Bool.{Bool, true, false, _&&_, _||_, not, cond}
 use mathlib.Core.List.{List}

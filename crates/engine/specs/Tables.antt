@@ -8,8 +8,8 @@ use Rattle.terms.specs.Reserved.{noSlot}
 use Rattle.versions.specs.Entry.{emptyEntry}
 use Rattle.versions.specs.declared.Version.{Version}
 
--- 1: "a lent table's length is wrong"; "The caller lends the records (N numbers), the newest-version table (N numbers ..),
--- the version table (256 versions) and the results table (256 numbers)."
+-- 1: "a lent table's length is wrong"; "The caller lends the records (N numbers), the newest-version table (N numbers
+-- ..), the version table (256 versions) and the results table (256 numbers)."
 abbrev pub notOf : ℕ → ℕ → Bool
 notOf size right = not (eqb size right)
 

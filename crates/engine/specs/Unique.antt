@@ -35,32 +35,32 @@ pub open-unique : (s : State) (log newest : List ℕ) (versions : List Version) 
     → OpenMet s log newest versions results a a-newest a-versions a-results
     → OpenMet s log newest versions results b b-newest b-versions b-results
     → (a ≡ b) × ((a-newest ≡ b-newest) × ((a-versions ≡ b-versions) × (a-results ≡ b-results)))
-open-unique s log newest versions results a b a-newest b-newest a-versions b-versions a-results b-results first second = (
-  same (first .0) (second .0),
-  (same (first .1 .0) (second .1 .0), (same (first .1 .1 .0) (second .1 .1 .0), same (first .1 .1 .1) (second .1 .1 .1))),
+open-unique s log newest versions results a b a-newest b-newest a-versions b-versions a-results b-results one two = (
+  same (one .0) (two .0),
+  (same (one .1 .0) (two .1 .0), (same (one .1 .1 .0) (two .1 .1 .0), same (one .1 .1 .1) (two .1 .1 .1))),
 )
 
 pub place-unique : (s : State) (p : ℕ) (log newest : List ℕ) (versions : List Version) (a b : Stepped)
     (a-newest b-newest : List ℕ) (a-versions b-versions : List Version)
     → PlaceMet s p log newest versions a a-newest a-versions → PlaceMet s p log newest versions b b-newest b-versions
     → (a ≡ b) × ((a-newest ≡ b-newest) × (a-versions ≡ b-versions))
-place-unique s p log newest versions a b a-newest b-newest a-versions b-versions first second =
-    (same (first .0) (second .0), (same (first .1 .0) (second .1 .0), same (first .1 .1) (second .1 .1)))
+place-unique s p log newest versions a b a-newest b-newest a-versions b-versions one two =
+    (same (one .0) (two .0), (same (one .1 .0) (two .1 .0), same (one .1 .1) (two .1 .1)))
 
 pub advance-unique : (s : State) (w : ℕ) (log records newest : List ℕ) (versions : List Version) (results : List ℕ)
     (a b : Stepped) (a-versions b-versions : List Version) (a-results b-results : List ℕ)
     → AdvanceMet s w log records newest versions results a a-versions a-results
     → AdvanceMet s w log records newest versions results b b-versions b-results
     → (a ≡ b) × ((a-versions ≡ b-versions) × (a-results ≡ b-results))
-advance-unique s w log records newest versions results a b a-versions b-versions a-results b-results first second =
-    (same (first .0) (second .0), (same (first .1 .0) (second .1 .0), same (first .1 .1) (second .1 .1)))
+advance-unique s w log records newest versions results a b a-versions b-versions a-results b-results one two =
+    (same (one .0) (two .0), (same (one .1 .0) (two .1 .0), same (one .1 .1) (two .1 .1)))
 
 pub seal-unique : (s : State) (records newest : List ℕ) (versions : List Version) (a b : Stepped)
     (a-records b-records a-newest b-newest : List ℕ) (a-versions b-versions : List Version)
     → SealMet s records newest versions a a-records a-newest a-versions
     → SealMet s records newest versions b b-records b-newest b-versions
     → (a ≡ b) × ((a-records ≡ b-records) × ((a-newest ≡ b-newest) × (a-versions ≡ b-versions)))
-seal-unique s records newest versions a b a-records b-records a-newest b-newest a-versions b-versions first second = (
-  same (first .0) (second .0),
-  (same (first .1 .0) (second .1 .0), (same (first .1 .1 .0) (second .1 .1 .0), same (first .1 .1 .1) (second .1 .1 .1))),
+seal-unique s records newest versions a b a-records b-records a-newest b-newest a-versions b-versions one two = (
+  same (one .0) (two .0),
+  (same (one .1 .0) (two .1 .0), (same (one .1 .1 .0) (two .1 .1 .0), same (one .1 .1 .1) (two .1 .1 .1))),
 )

@@ -37,8 +37,8 @@ fn has_mark_past(carried: [bool; 4], writecount: u8) -> bool
         | ((writecount <= 3) & carried[3])
 }
 
-// "a worker has more values than declared reads, a carry mark past the write count, more carries done than marks, a fill
-// done before the last carry, or no fill left"
+// "a worker has more values than declared reads, a carry mark past the write count, more carries done than marks, a
+// fill done before the last carry, or no fill left"
 pub(crate) fn is_unfit(worker: Worker, meaning: Transaction) -> bool
     ensures { λ r. ⌜ r ≡ unfit worker meaning ⌝ }
 {

@@ -28,8 +28,8 @@ pub enum Seen {
     Unsound,
 }
 
-// The answer, the worker as it goes on, how the transaction stands where the worker leaves it, the entry to fill, and the
-// results where the transaction is complete.
+// The answer, the worker as it goes on, how the transaction stands where the worker leaves it, the entry to fill, and
+// the results where the transaction is complete.
 pub struct Move {
     pub answer: Answer,
     pub worker: Worker,

@@ -25,8 +25,8 @@ use versions::Link;
 use versions::Version;
 use versions::link;
 
-// What a place step comes to: its verdict; and where it is accepted the transaction with its position, its writes, which
-// of them lie in the partition, and how many transactions the partition has placed then.
+// What a place step comes to: its verdict; and where it is accepted the transaction with its position, its writes,
+// which of them lie in the partition, and how many transactions the partition has placed then.
 pub struct Placing {
     pub verdict: Verdict,
     pub transaction: u8,
@@ -230,8 +230,8 @@ pub(crate) fn write_at(plan: Placing, j: usize) -> Write
     }
 }
 
-// The link of a write behind the newest version of its record. A write that is not to be placed is linked past the end of
-// the version table, where nothing changes.
+// The link of a write behind the newest version of its record. A write that is not to be placed is linked past the
+// end of the version table, where nothing changes.
 pub(crate) fn link_behind(newest: &[u16], versions: usize, write: Write) -> Link
     ensures { λ r. ⌜ r ≡ linkBehind (now (newest .entry)) versions write ⌝ }
 {

@@ -89,8 +89,8 @@ impl State {
         }
     }
 
-    // "the next position rises by n, the batch number by 1, and n and all placed counts become 0"; a refused seal leaves
-    // the state as it is.
+    // "the next position rises by n, the batch number by 1, and n and all placed counts become 0"; a refused seal
+    // leaves the state as it is.
     pub(crate) fn closed(self, sealing: Sealing) -> Stepped
         ensures { λ r. ⌜ r ≡ closedAs self sealing ⌝ }
     {

@@ -26,7 +26,13 @@ with-worker-requires-2 c κs = search needs
 
 -- src/advance.rt:237:5
 returns : tie.Need-returns
-returns c = rw (c .with-worker .ensures, c .before .with-row .ensures, c .before .before .index .ensures, c .before .before .before .if1 .taken)
+returns c =
+    rw (
+      c .with-worker .ensures,
+      c .before .with-row .ensures,
+      c .before .before .index .ensures,
+      c .before .before .before .if1 .taken,
+    )
 
 -- src/advance.rt:237:5
 returns-2 : tie.Need-returns-2

@@ -46,7 +46,15 @@ refused-aim-requires-2 c κs = search needs
 -- src/advance.rt:151:13
 returns-2 : tie.Need-returns-2
 unfolding aimOf advanceVerdict
-returns-2 c = rw (c .refused-aim2 .ensures, ← c .before .before .before .before .is-wrong-for-advance .ensures, c .before .before .before .if1 .left, ← c .before .before .is-out-of-range .ensures, c .before .if2 .taken)
+returns-2 c =
+    let at₁ = c .before .before .before .before in
+    rw (
+      c .refused-aim2 .ensures,
+      ← at₁ .is-wrong-for-advance .ensures,
+      c .before .before .before .if1 .left,
+      ← c .before .before .is-out-of-range .ensures,
+      c .before .if2 .taken,
+    )
 
 -- src/advance.rt:153:12
 is-not-running-requires : tie.Need-is-not-running-requires
@@ -59,7 +67,17 @@ refused-aim-requires-3 c κs = search needs
 -- src/advance.rt:154:13
 returns-3 : tie.Need-returns-3
 unfolding aimOf advanceVerdict
-returns-3 c = rw (c .refused-aim3 .ensures, ← c .before .before .before .before .before .before .is-wrong-for-advance .ensures, c .before .before .before .before .before .if1 .left, ← c .before .before .before .before .is-out-of-range .ensures, c .before .before .before .if2 .left, ← c .before .before .is-not-running .ensures, c .before .if3 .taken)
+returns-3 c =
+    let at₁ = c .before .before .before .before in
+    rw (
+      c .refused-aim3 .ensures,
+      ← at₁ .before .before .is-wrong-for-advance .ensures,
+      at₁ .before .if1 .left,
+      ← at₁ .is-out-of-range .ensures,
+      c .before .before .before .if2 .left,
+      ← c .before .before .is-not-running .ensures,
+      c .before .if3 .taken,
+    )
 
 -- src/advance.rt:156:12
 cast-if4 : tie.Need-cast-if4
@@ -72,7 +90,19 @@ refused-aim-requires-4 c κs = search needs
 -- src/advance.rt:157:13
 returns-4 : tie.Need-returns-4
 unfolding aimOf advanceVerdict
-returns-4 c = rw (c .refused-aim4 .ensures, ← c .before .before .before .before .before .before .before .before .is-wrong-for-advance .ensures, c .before .before .before .before .before .before .before .if1 .left, ← c .before .before .before .before .before .before .is-out-of-range .ensures, c .before .before .before .before .before .if2 .left, ← c .before .before .before .before .is-not-running .ensures, c .before .before .before .if3 .left, le-leb _ _ (c .before .if4 .taken))
+returns-4 c =
+    let at₁ = c .before .before .before .before in
+    let at₂ = at₁ .before .before .before .before in
+    rw (
+      c .refused-aim4 .ensures,
+      ← at₂ .is-wrong-for-advance .ensures,
+      at₁ .before .before .before .if1 .left,
+      ← at₁ .before .before .is-out-of-range .ensures,
+      at₁ .before .if2 .left,
+      ← at₁ .is-not-running .ensures,
+      c .before .before .before .if3 .left,
+      le-leb _ _ (c .before .if4 .taken),
+    )
 
 -- src/advance.rt:159:13
 worker-at-requires : tie.Need-worker-at-requires
@@ -92,7 +122,22 @@ refused-aim-requires-5 c κs = search needs
 -- src/advance.rt:161:13
 returns-5 : tie.Need-returns-5
 unfolding aimOf advanceVerdict
-returns-5 c = rw (c .refused-aim5 .ensures, ← c .before .before .before .before .before .before .before .before .before .before .before .is-wrong-for-advance .ensures, c .before .before .before .before .before .before .before .before .before .before .if1 .left, ← c .before .before .before .before .before .before .before .before .before .is-out-of-range .ensures, c .before .before .before .before .before .before .before .before .if2 .left, ← c .before .before .before .before .before .before .before .is-not-running .ensures, c .before .before .before .before .before .before .if3 .left, lt-leb _ _ (c .before .before .before .before .if4 .left), ← c .before .before .before .worker-at .ensures, ← c .before .before .is-idle .ensures, c .before .if5 .taken)
+returns-5 c =
+    let at₁ = c .before .before .before .before in
+    let at₂ = at₁ .before .before .before .before in
+    rw (
+      c .refused-aim5 .ensures,
+      ← at₂ .before .before .before .is-wrong-for-advance .ensures,
+      at₂ .before .before .if1 .left,
+      ← at₂ .before .is-out-of-range .ensures,
+      at₂ .if2 .left,
+      ← at₁ .before .before .before .is-not-running .ensures,
+      at₁ .before .before .if3 .left,
+      lt-leb _ _ (at₁ .if4 .left),
+      ← c .before .before .before .worker-at .ensures,
+      ← c .before .before .is-idle .ensures,
+      c .before .if5 .taken,
+    )
 
 -- src/advance.rt:163:46
 cast-is-not-of : tie.Need-cast-is-not-of
@@ -113,7 +158,25 @@ refused-aim-requires-6 c κs = search needs
 -- src/advance.rt:164:13
 returns-6 : tie.Need-returns-6
 unfolding aimOf advanceVerdict
-returns-6 c = rw (c .refused-aim6 .ensures, ← c .before .before .before .before .before .before .before .before .before .before .before .before .before .before .is-wrong-for-advance .ensures, c .before .before .before .before .before .before .before .before .before .before .before .before .before .if1 .left, ← c .before .before .before .before .before .before .before .before .before .before .before .before .is-out-of-range .ensures, c .before .before .before .before .before .before .before .before .before .before .before .if2 .left, ← c .before .before .before .before .before .before .before .before .before .before .is-not-running .ensures, c .before .before .before .before .before .before .before .before .before .if3 .left, lt-leb _ _ (c .before .before .before .before .before .before .before .if4 .left), ← c .before .before .before .before .before .before .worker-at .ensures, ← c .before .before .before .before .before .is-idle .ensures, c .before .before .before .before .if5 .left, ← c .before .before .is-not-of .ensures, c .before .if6 .taken)
+returns-6 c =
+    let at₁ = c .before .before .before .before in
+    let at₂ = at₁ .before .before .before .before in
+    let at₃ = at₂ .before .before .before .before in
+    rw (
+      c .refused-aim6 .ensures,
+      ← at₃ .before .before .is-wrong-for-advance .ensures,
+      at₃ .before .if1 .left,
+      ← at₃ .is-out-of-range .ensures,
+      at₂ .before .before .before .if2 .left,
+      ← at₂ .before .before .is-not-running .ensures,
+      at₂ .before .if3 .left,
+      lt-leb _ _ (at₁ .before .before .before .if4 .left),
+      ← at₁ .before .before .worker-at .ensures,
+      ← at₁ .before .is-idle .ensures,
+      at₁ .if5 .left,
+      ← c .before .before .is-not-of .ensures,
+      c .before .if6 .taken,
+    )
 
 -- src/advance.rt:166:36
 index-requires : tie.Need-index-requires
@@ -139,9 +202,13 @@ cast-aimed c = search needs
 add-aimed : tie.Need-add-aimed
 add-aimed c =
     let at = c .before .before .before .before .before .before .before .before .before .before .before in
-    let ranged = in-range _ (sym (at .before .before .before .before .before .before .is-out-of-range .ensures) ∙ at .before .before .before .before .before .if2 .left) in
+    let ranged =
+    in-range _
+    (sym (at .before .before .before .before .before .before .is-out-of-range .ensures)
+    ∙ at .before .before .before .before .before .if2 .left) in
     let worker = at .worker-at .ensures in
-    let busy = rw worker at (sym (c .before .before .before .before .before .before .before .before .before .before .is-idle .ensures) ∙ c .before .before .before .before .before .before .before .before .before .if5 .left) in
+    let far = c .before .before .before .before .before .before .before .before in
+    let busy = rw worker at (sym (far .before .before .is-idle .ensures) ∙ far .before .if5 .left) in
     let below = holds-below _ ranged _ (omega (arith, ranged .few-workers, at .before .if4 .left)) busy in
     let mine = rw (← worker) at below in
     record { fits = omega (arith, ranged .positions-last, mine) }
@@ -153,7 +220,30 @@ aimed-requires c κs = search needs
 -- src/advance.rt:144:5
 returns-7 : tie.Need-returns-7
 unfolding aimOf advanceVerdict
-returns-7 c = rw (c .aimed .ensures, c .before .before .before .slots .ensures, c .before .before .before .before .unpack-at .ensures, c .before .before .before .before .before .before .index .ensures, ← c .before .before .before .before .before .before .before .before .before .before .before .before .before .before .before .before .before .before .before .before .is-wrong-for-advance .ensures, c .before .before .before .before .before .before .before .before .before .before .before .before .before .before .before .before .before .before .before .if1 .left, ← c .before .before .before .before .before .before .before .before .before .before .before .before .before .before .before .before .before .before .is-out-of-range .ensures, c .before .before .before .before .before .before .before .before .before .before .before .before .before .before .before .before .before .if2 .left, ← c .before .before .before .before .before .before .before .before .before .before .before .before .before .before .before .before .is-not-running .ensures, c .before .before .before .before .before .before .before .before .before .before .before .before .before .before .before .if3 .left, lt-leb _ _ (c .before .before .before .before .before .before .before .before .before .before .before .before .before .if4 .left), ← c .before .before .before .before .before .before .before .before .before .before .before .before .worker-at .ensures, ← c .before .before .before .before .before .before .before .before .before .before .before .is-idle .ensures, c .before .before .before .before .before .before .before .before .before .before .if5 .left, ← c .before .before .before .before .before .before .before .before .is-not-of .ensures, c .before .before .before .before .before .before .before .if6 .left)
+returns-7 c =
+    let at₁ = c .before .before .before .before in
+    let at₂ = at₁ .before .before .before .before in
+    let at₃ = at₂ .before .before .before .before in
+    let at₄ = at₃ .before .before .before .before in
+    let at₅ = at₄ .before .before .before .before in
+    rw (
+      c .aimed .ensures,
+      c .before .before .before .slots .ensures,
+      at₁ .unpack-at .ensures,
+      at₁ .before .before .index .ensures,
+      ← at₅ .is-wrong-for-advance .ensures,
+      at₄ .before .before .before .if1 .left,
+      ← at₄ .before .before .is-out-of-range .ensures,
+      at₄ .before .if2 .left,
+      ← at₄ .is-not-running .ensures,
+      at₃ .before .before .before .if3 .left,
+      lt-leb _ _ (at₃ .before .if4 .left),
+      ← at₃ .worker-at .ensures,
+      ← at₂ .before .before .before .is-idle .ensures,
+      at₂ .before .before .if5 .left,
+      ← at₂ .is-not-of .ensures,
+      at₁ .before .before .before .if6 .left,
+    )
 
 pub aim-spec : {M : Type 1} → statement M
 aim-spec =

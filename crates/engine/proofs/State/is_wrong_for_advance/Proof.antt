@@ -32,7 +32,14 @@ is-not-of-requires-4 c κs = search needs
 
 -- src/advance.rt:134:5
 returns : tie.Need-returns
-returns c = rw (c .is-not-of4 .ensures, c .before .is-not-of3 .ensures, c .before .before .is-not-of2 .ensures, c .before .before .before .before .is-not-of .ensures)
+returns c =
+    let at₁ = c .before .before .before .before in
+    rw (
+      c .is-not-of4 .ensures,
+      c .before .is-not-of3 .ensures,
+      c .before .before .is-not-of2 .ensures,
+      at₁ .is-not-of .ensures,
+    )
 
 pub is-wrong-for-advance-spec : {M : Type 1} → statement M
 is-wrong-for-advance-spec =

@@ -35,7 +35,14 @@ refused-by-requires c κs = search needs
 
 -- src/open.rt:109:5
 returns : tie.Need-returns
-returns c = rw (c .accepted .ensures, c .before .before .before .idle .ensures, c .before .before .before .before .unprocessed .ensures, c .before .before .before .before .before .enum-told .given .1)
+returns c =
+    let at₁ = c .before .before .before .before in
+    rw (
+      c .accepted .ensures,
+      c .before .before .before .idle .ensures,
+      at₁ .unprocessed .ensures,
+      at₁ .before .enum-told .given .1,
+    )
 
 -- src/open.rt:109:5
 returns-2 : tie.Need-returns-2

@@ -44,7 +44,15 @@ refused-placing-requires-2 c κs = search needs
 -- src/place.rt:160:13
 returns-2 : tie.Need-returns-2
 unfolding placeVerdict
-returns-2 c = rw (c .refused-placing2 .ensures, ← c .before .before .before .before .is-wrong-for-place .ensures, c .before .before .before .if1 .left, ← c .before .before .is-out-of-range .ensures, c .before .if2 .taken)
+returns-2 c =
+    let at₁ = c .before .before .before .before in
+    rw (
+      c .refused-placing2 .ensures,
+      ← at₁ .is-wrong-for-place .ensures,
+      c .before .before .before .if1 .left,
+      ← c .before .before .is-out-of-range .ensures,
+      c .before .if2 .taken,
+    )
 
 -- src/place.rt:162:12
 is-not-planning-requires : tie.Need-is-not-planning-requires
@@ -57,7 +65,17 @@ refused-placing-requires-3 c κs = search needs
 -- src/place.rt:163:13
 returns-3 : tie.Need-returns-3
 unfolding placeVerdict
-returns-3 c = rw (c .refused-placing3 .ensures, ← c .before .before .before .before .before .before .is-wrong-for-place .ensures, c .before .before .before .before .before .if1 .left, ← c .before .before .before .before .is-out-of-range .ensures, c .before .before .before .if2 .left, ← c .before .before .is-not-planning .ensures, c .before .if3 .taken)
+returns-3 c =
+    let at₁ = c .before .before .before .before in
+    rw (
+      c .refused-placing3 .ensures,
+      ← at₁ .before .before .is-wrong-for-place .ensures,
+      at₁ .before .if1 .left,
+      ← at₁ .is-out-of-range .ensures,
+      c .before .before .before .if2 .left,
+      ← c .before .before .is-not-planning .ensures,
+      c .before .if3 .taken,
+    )
 
 -- src/place.rt:165:12
 cast-if4 : tie.Need-cast-if4
@@ -70,7 +88,19 @@ refused-placing-requires-4 c κs = search needs
 -- src/place.rt:166:13
 returns-4 : tie.Need-returns-4
 unfolding placeVerdict
-returns-4 c = rw (c .refused-placing4 .ensures, ← c .before .before .before .before .before .before .before .before .is-wrong-for-place .ensures, c .before .before .before .before .before .before .before .if1 .left, ← c .before .before .before .before .before .before .is-out-of-range .ensures, c .before .before .before .before .before .if2 .left, ← c .before .before .before .before .is-not-planning .ensures, c .before .before .before .if3 .left, le-leb _ _ (c .before .if4 .taken))
+returns-4 c =
+    let at₁ = c .before .before .before .before in
+    let at₂ = at₁ .before .before .before .before in
+    rw (
+      c .refused-placing4 .ensures,
+      ← at₂ .is-wrong-for-place .ensures,
+      at₁ .before .before .before .if1 .left,
+      ← at₁ .before .before .is-out-of-range .ensures,
+      at₁ .before .if2 .left,
+      ← at₁ .is-not-planning .ensures,
+      c .before .before .before .if3 .left,
+      le-leb _ _ (c .before .if4 .taken),
+    )
 
 -- src/place.rt:168:13
 placed-by-requires : tie.Need-placed-by-requires
@@ -83,7 +113,21 @@ refused-placing-requires-5 c κs = search needs
 -- src/place.rt:170:13
 returns-5 : tie.Need-returns-5
 unfolding placeVerdict
-returns-5 c = rw (c .refused-placing5 .ensures, ← c .before .before .before .before .before .before .before .before .before .before .before .is-wrong-for-place .ensures, c .before .before .before .before .before .before .before .before .before .before .if1 .left, ← c .before .before .before .before .before .before .before .before .before .is-out-of-range .ensures, c .before .before .before .before .before .before .before .before .if2 .left, ← c .before .before .before .before .before .before .before .is-not-planning .ensures, c .before .before .before .before .before .before .if3 .left, lt-leb _ _ (c .before .before .before .before .if4 .left), ← c .before .before .before .placed-by .ensures, eq-eqb _ _ (c .before .if5 .taken))
+returns-5 c =
+    let at₁ = c .before .before .before .before in
+    let at₂ = at₁ .before .before .before .before in
+    rw (
+      c .refused-placing5 .ensures,
+      ← at₂ .before .before .before .is-wrong-for-place .ensures,
+      at₂ .before .before .if1 .left,
+      ← at₂ .before .is-out-of-range .ensures,
+      at₂ .if2 .left,
+      ← at₁ .before .before .before .is-not-planning .ensures,
+      at₁ .before .before .if3 .left,
+      lt-leb _ _ (at₁ .if4 .left),
+      ← c .before .before .before .placed-by .ensures,
+      eq-eqb _ _ (c .before .if5 .taken),
+    )
 
 -- src/place.rt:172:46
 cast-is-not-of : tie.Need-cast-is-not-of
@@ -104,7 +148,24 @@ refused-placing-requires-6 c κs = search needs
 -- src/place.rt:173:13
 returns-6 : tie.Need-returns-6
 unfolding placeVerdict
-returns-6 c = rw (c .refused-placing6 .ensures, ← c .before .before .before .before .before .before .before .before .before .before .before .before .before .before .is-wrong-for-place .ensures, c .before .before .before .before .before .before .before .before .before .before .before .before .before .if1 .left, ← c .before .before .before .before .before .before .before .before .before .before .before .before .is-out-of-range .ensures, c .before .before .before .before .before .before .before .before .before .before .before .if2 .left, ← c .before .before .before .before .before .before .before .before .before .before .is-not-planning .ensures, c .before .before .before .before .before .before .before .before .before .if3 .left, lt-leb _ _ (c .before .before .before .before .before .before .before .if4 .left), ← c .before .before .before .before .before .before .placed-by .ensures, ne-eqb _ _ (c .before .before .before .before .if5 .left), ← c .before .before .is-not-of .ensures, c .before .if6 .taken)
+returns-6 c =
+    let at₁ = c .before .before .before .before in
+    let at₂ = at₁ .before .before .before .before in
+    let at₃ = at₂ .before .before .before .before in
+    rw (
+      c .refused-placing6 .ensures,
+      ← at₃ .before .before .is-wrong-for-place .ensures,
+      at₃ .before .if1 .left,
+      ← at₃ .is-out-of-range .ensures,
+      at₂ .before .before .before .if2 .left,
+      ← at₂ .before .before .is-not-planning .ensures,
+      at₂ .before .if3 .left,
+      lt-leb _ _ (at₁ .before .before .before .if4 .left),
+      ← at₁ .before .before .placed-by .ensures,
+      ne-eqb _ _ (at₁ .if5 .left),
+      ← c .before .before .is-not-of .ensures,
+      c .before .if6 .taken,
+    )
 
 -- src/place.rt:175:36
 cast-unpack-at : tie.Need-cast-unpack-at
@@ -123,7 +184,10 @@ planned-requires : tie.Need-planned-requires
 planned-requires c κs =
     let at = c .before .before .before .before .before .before .before .before in
     let args = at .before .before .before .before .before .before .before .before .before .before .args in
-    let ranged = in-range (args .self) (sym (at .before .before .before .before .before .is-out-of-range .ensures) ∙ at .before .before .before .before .if2 .left) in
+    let ranged =
+    in-range (args .self)
+    (sym (at .before .before .before .before .before .is-out-of-range .ensures)
+    ∙ at .before .before .before .before .if2 .left) in
     let there = at .if4 .left in
     let most = placed-most (args .self) ranged (args .p) (omega (arith, ranged .few-partitions, there)) in
     let mine = rw (← c .before .before .before .before .before .before .before .placed-by .ensures) at most in (
@@ -134,7 +198,26 @@ planned-requires c κs =
 -- src/place.rt:153:5
 returns-7 : tie.Need-returns-7
 unfolding placeVerdict
-returns-7 c = rw (c .planned .ensures, c .before .unpack-at .ensures, ← c .before .before .before .before .before .before .before .before .before .before .before .before .before .before .before .before .is-wrong-for-place .ensures, c .before .before .before .before .before .before .before .before .before .before .before .before .before .before .before .if1 .left, ← c .before .before .before .before .before .before .before .before .before .before .before .before .before .before .is-out-of-range .ensures, c .before .before .before .before .before .before .before .before .before .before .before .before .before .if2 .left, ← c .before .before .before .before .before .before .before .before .before .before .before .before .is-not-planning .ensures, c .before .before .before .before .before .before .before .before .before .before .before .if3 .left, lt-leb _ _ (c .before .before .before .before .before .before .before .before .before .if4 .left), ← c .before .before .before .before .before .before .before .before .placed-by .ensures, ne-eqb _ _ (c .before .before .before .before .before .before .if5 .left), ← c .before .before .before .before .is-not-of .ensures, c .before .before .before .if6 .left)
+returns-7 c =
+    let at₁ = c .before .before .before .before in
+    let at₂ = at₁ .before .before .before .before in
+    let at₃ = at₂ .before .before .before .before in
+    let at₄ = at₃ .before .before .before .before in
+    rw (
+      c .planned .ensures,
+      c .before .unpack-at .ensures,
+      ← at₄ .is-wrong-for-place .ensures,
+      at₃ .before .before .before .if1 .left,
+      ← at₃ .before .before .is-out-of-range .ensures,
+      at₃ .before .if2 .left,
+      ← at₃ .is-not-planning .ensures,
+      at₂ .before .before .before .if3 .left,
+      lt-leb _ _ (at₂ .before .if4 .left),
+      ← at₂ .placed-by .ensures,
+      ne-eqb _ _ (at₁ .before .before .if5 .left),
+      ← at₁ .is-not-of .ensures,
+      c .before .before .before .if6 .left,
+    )
 
 pub placing-spec : {M : Type 1} → statement M
 placing-spec =

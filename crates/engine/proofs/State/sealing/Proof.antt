@@ -36,7 +36,15 @@ refused-seal-requires-2 c κs = search needs
 -- src/seal.rt:69:13
 returns-2 : tie.Need-returns-2
 unfolding sealVerdict
-returns-2 c = rw (c .refused-seal2 .ensures, ← c .before .before .before .before .is-wrong-for-seal .ensures, c .before .before .before .if1 .left, ← c .before .before .is-out-of-range .ensures, c .before .if2 .taken)
+returns-2 c =
+    let at₁ = c .before .before .before .before in
+    rw (
+      c .refused-seal2 .ensures,
+      ← at₁ .is-wrong-for-seal .ensures,
+      c .before .before .before .if1 .left,
+      ← c .before .before .is-out-of-range .ensures,
+      c .before .if2 .taken,
+    )
 
 -- src/seal.rt:71:12
 is-not-sealable-requires : tie.Need-is-not-sealable-requires
@@ -49,7 +57,17 @@ refused-seal-requires-3 c κs = search needs
 -- src/seal.rt:72:13
 returns-3 : tie.Need-returns-3
 unfolding sealVerdict
-returns-3 c = rw (c .refused-seal3 .ensures, ← c .before .before .before .before .before .before .is-wrong-for-seal .ensures, c .before .before .before .before .before .if1 .left, ← c .before .before .before .before .is-out-of-range .ensures, c .before .before .before .if2 .left, ← c .before .before .is-not-sealable .ensures, c .before .if3 .taken)
+returns-3 c =
+    let at₁ = c .before .before .before .before in
+    rw (
+      c .refused-seal3 .ensures,
+      ← at₁ .before .before .is-wrong-for-seal .ensures,
+      at₁ .before .if1 .left,
+      ← at₁ .is-out-of-range .ensures,
+      c .before .before .before .if2 .left,
+      ← c .before .before .is-not-sealable .ensures,
+      c .before .if3 .taken,
+    )
 
 -- src/seal.rt:75:13
 refused-seal-requires-4 : tie.Need-refused-seal-requires-4
@@ -58,7 +76,18 @@ refused-seal-requires-4 c κs = search needs
 -- src/seal.rt:75:13
 returns-4 : tie.Need-returns-4
 unfolding sealVerdict
-returns-4 c = rw (c .refused-seal4 .ensures, ← c .before .before .before .before .before .before .before .is-wrong-for-seal .ensures, c .before .before .before .before .before .before .if1 .left, ← c .before .before .before .before .before .is-out-of-range .ensures, c .before .before .before .before .if2 .left, ← c .before .before .before .is-not-sealable .ensures, c .before .before .if3 .left, c .before .if4 .taken)
+returns-4 c =
+    let at₁ = c .before .before .before .before in
+    rw (
+      c .refused-seal4 .ensures,
+      ← at₁ .before .before .before .is-wrong-for-seal .ensures,
+      at₁ .before .before .if1 .left,
+      ← at₁ .before .is-out-of-range .ensures,
+      at₁ .if2 .left,
+      ← c .before .before .before .is-not-sealable .ensures,
+      c .before .before .if3 .left,
+      c .before .if4 .taken,
+    )
 
 -- src/seal.rt:79:33
 cast-t15 : tie.Need-cast-t15
@@ -81,7 +110,18 @@ add-t17 c =
 -- src/seal.rt:62:5
 returns-5 : tie.Need-returns-5
 unfolding sealVerdict
-returns-5 c = rw (← c .before .before .before .before .before .before .before .before .before .is-wrong-for-seal .ensures, c .before .before .before .before .before .before .before .before .if1 .left, ← c .before .before .before .before .before .before .before .is-out-of-range .ensures, c .before .before .before .before .before .before .if2 .left, ← c .before .before .before .before .before .is-not-sealable .ensures, c .before .before .before .before .if3 .left, c .before .before .before .if4 .left)
+returns-5 c =
+    let at₁ = c .before .before .before .before in
+    let at₂ = at₁ .before .before .before .before in
+    rw (
+      ← at₂ .before .is-wrong-for-seal .ensures,
+      at₂ .if1 .left,
+      ← at₁ .before .before .before .is-out-of-range .ensures,
+      at₁ .before .before .if2 .left,
+      ← at₁ .before .is-not-sealable .ensures,
+      at₁ .if3 .left,
+      c .before .before .before .if4 .left,
+    )
 
 pub sealing-spec : {M : Type 1} → statement M
 sealing-spec =

@@ -48,7 +48,14 @@ returns-3 c = rw (c .before .before .before .phase .given .1, le-ltb _ _ (c .if1
 -- src/acts.rt:84:1
 returns-4 : tie.Need-returns-4
 unfolding actOf
-returns-4 c = rw (c .next-carried .ensures, c .before .before .before .before .phase2 .given .1, ← c .before .before .marks .ensures, lt-ltb _ _ (c .before .if2 .taken))
+returns-4 c =
+    let at₁ = c .before .before .before .before in
+    rw (
+      c .next-carried .ensures,
+      at₁ .phase2 .given .1,
+      ← c .before .before .marks .ensures,
+      lt-ltb _ _ (c .before .if2 .taken),
+    )
 
 -- src/acts.rt:84:1
 returns-5 : tie.Need-returns-5

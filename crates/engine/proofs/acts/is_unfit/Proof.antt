@@ -41,7 +41,9 @@ returns-2 c = rw (c .before .before .phase .given .1)
 -- src/acts.rt:42:1
 returns-3 : tie.Need-returns-3
 unfolding unfit
-returns-3 c = rw (c .before .has-mark-past .ensures, c .before .before .before .marks .ensures, c .before .before .before .before .before .phase2 .given .1)
+returns-3 c =
+    let at₁ = c .before .before .before .before in
+    rw (c .before .has-mark-past .ensures, c .before .before .before .marks .ensures, at₁ .before .phase2 .given .1)
 
 pub is-unfit-spec : {M : Type 1} → statement M
 is-unfit-spec =

@@ -29,8 +29,10 @@ one-requires-2 c κs = search needs
 -- src/acts.rt:27:5
 add-result : tie.Need-add-result
 add-result c =
-    let first : c .before .one .result ≤ 1 = rw (c .before .one .ensures) (one-most (getD (c .before .before .args .t1) 0 false)) in
-    let second : c .one2 .result ≤ 1 = rw (c .one2 .ensures) (one-most (getD (c .before .before .args .t1) 1 false)) in
+    let first : c .before .one .result ≤ 1 =
+    rw (c .before .one .ensures) (one-most (getD (c .before .before .args .t1) 0 false)) in
+    let second : c .one2 .result ≤ 1 =
+    rw (c .one2 .ensures) (one-most (getD (c .before .before .args .t1) 1 false)) in
     search needs
 
 -- src/acts.rt:27:45
@@ -44,9 +46,12 @@ one-requires-3 c κs = search needs
 -- src/acts.rt:27:5
 add-result-2 : tie.Need-add-result-2
 add-result-2 c =
-    let first : c .before .before .one .result ≤ 1 = rw (c .before .before .one .ensures) (one-most (getD (c .before .before .before .args .t1) 0 false)) in
-    let second : c .before .one2 .result ≤ 1 = rw (c .before .one2 .ensures) (one-most (getD (c .before .before .before .args .t1) 1 false)) in
-    let third : c .one3 .result ≤ 1 = rw (c .one3 .ensures) (one-most (getD (c .before .before .before .args .t1) 2 false)) in
+    let first : c .before .before .one .result ≤ 1 =
+    rw (c .before .before .one .ensures) (one-most (getD (c .before .before .before .args .t1) 0 false)) in
+    let second : c .before .one2 .result ≤ 1 =
+    rw (c .before .one2 .ensures) (one-most (getD (c .before .before .before .args .t1) 1 false)) in
+    let third : c .one3 .result ≤ 1 =
+    rw (c .one3 .ensures) (one-most (getD (c .before .before .before .args .t1) 2 false)) in
     search needs
 
 -- src/acts.rt:27:63
@@ -60,10 +65,15 @@ one-requires-4 c κs = search needs
 -- src/acts.rt:27:5
 add-result-3 : tie.Need-add-result-3
 add-result-3 c =
-    let first : c .before .before .before .one .result ≤ 1 = rw (c .before .before .before .one .ensures) (one-most (getD (c .before .before .before .before .args .t1) 0 false)) in
-    let second : c .before .before .one2 .result ≤ 1 = rw (c .before .before .one2 .ensures) (one-most (getD (c .before .before .before .before .args .t1) 1 false)) in
-    let third : c .before .one3 .result ≤ 1 = rw (c .before .one3 .ensures) (one-most (getD (c .before .before .before .before .args .t1) 2 false)) in
-    let fourth : c .one4 .result ≤ 1 = rw (c .one4 .ensures) (one-most (getD (c .before .before .before .before .args .t1) 3 false)) in
+    let first : c .before .before .before .one .result ≤ 1 =
+    rw (c .before .before .before .one .ensures)
+    (one-most (getD (c .before .before .before .before .args .t1) 0 false)) in
+    let second : c .before .before .one2 .result ≤ 1 =
+    rw (c .before .before .one2 .ensures) (one-most (getD (c .before .before .before .before .args .t1) 1 false)) in
+    let third : c .before .one3 .result ≤ 1 =
+    rw (c .before .one3 .ensures) (one-most (getD (c .before .before .before .before .args .t1) 2 false)) in
+    let fourth : c .one4 .result ≤ 1 =
+    rw (c .one4 .ensures) (one-most (getD (c .before .before .before .before .args .t1) 3 false)) in
     search needs
 
 -- src/acts.rt:24:1

@@ -30,8 +30,10 @@ one-requires-2 c κs = search needs
 -- src/acts.rt:71:18
 add-second : tie.Need-add-second
 add-second c =
-    let first : c .before .one .result ≤ 1 = rw (c .before .one .ensures) (one-most (getD (c .before .before .args .t1) 0 false)) in
-    let second : c .one2 .result ≤ 1 = rw (c .one2 .ensures) (one-most (getD (c .before .before .args .t1) 1 false)) in
+    let first : c .before .one .result ≤ 1 =
+    rw (c .before .one .ensures) (one-most (getD (c .before .before .args .t1) 0 false)) in
+    let second : c .one2 .result ≤ 1 =
+    rw (c .one2 .ensures) (one-most (getD (c .before .before .args .t1) 1 false)) in
     search needs
 
 -- src/acts.rt:72:8

@@ -34,7 +34,14 @@ refused-aim-requires c κs = search needs
 
 -- src/advance.rt:152:17
 returns : tie.Need-returns
-returns c = rw (c .refused-aim .ensures, c .before .before .before .before .enum-told2 .given .1, ← c .before .before .is-unfit .ensures, c .before .if1 .taken)
+returns c =
+    let at₁ = c .before .before .before .before in
+    rw (
+      c .refused-aim .ensures,
+      at₁ .enum-told2 .given .1,
+      ← c .before .before .is-unfit .ensures,
+      c .before .if1 .taken,
+    )
 
 -- src/advance.rt:154:17
 act-of-requires : tie.Need-act-of-requires
@@ -58,7 +65,17 @@ returns-2 c = rw (c .no-aim .ensures, c .before .enum-told .given .1)
 
 -- src/advance.rt:141:1
 returns-3 : tie.Need-returns-3
-returns-3 c = rw (c .slot-looked .ensures, c .before .decision-for .ensures, c .before .before .looked-at .ensures, c .before .before .before .act-of .ensures, c .before .before .before .before .before .before .before .enum-told2 .given .1, ← c .before .before .before .before .before .is-unfit .ensures, c .before .before .before .before .if1 .left)
+returns-3 c =
+    let at₁ = c .before .before .before .before in
+    rw (
+      c .slot-looked .ensures,
+      c .before .decision-for .ensures,
+      c .before .before .looked-at .ensures,
+      c .before .before .before .act-of .ensures,
+      at₁ .before .before .before .enum-told2 .given .1,
+      ← at₁ .before .is-unfit .ensures,
+      at₁ .if1 .left,
+    )
 
 pub aimed-spec : {M : Type 1} → statement M
 aimed-spec =

@@ -66,7 +66,18 @@ same-length c = search needs
 -- src/advance.rt:274:1
 returns : tie.Need-returns
 unfolding resultsBy
-returns c = rw (c .before .before .put-number4 .ensures, c .before .before .before .before .before .before .put-number3 .ensures, c .before .before .before .before .before .before .before .before .before .before .put-number2 .ensures, c .before .before .before .before .before .before .before .before .before .before .before .before .before .before .put-number .ensures, c .before .before .before .before .before .before .before .before .before .before .before .before .before .before .before .before .before .before .if1 .taken)
+returns c =
+    let at₁ = c .before .before .before .before in
+    let at₂ = at₁ .before .before .before .before in
+    let at₃ = at₂ .before .before .before .before in
+    let at₄ = at₃ .before .before .before .before in
+    rw (
+      c .before .before .put-number4 .ensures,
+      at₁ .before .before .put-number3 .ensures,
+      at₂ .before .before .put-number2 .ensures,
+      at₃ .before .before .put-number .ensures,
+      at₄ .before .before .if1 .taken,
+    )
 
 -- src/advance.rt:274:1
 returns-2 : tie.Need-returns-2

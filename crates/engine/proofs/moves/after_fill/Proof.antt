@@ -29,11 +29,22 @@ goes-on-requires c κs = search needs
 
 -- src/moves.rt:317:1
 returns : tie.Need-returns
-returns c = rw (c .completed .ensures, ← c .before .before .before .one-more .ensures, le-leb _ _ (c .before .before .if1 .taken))
+returns c =
+    rw (
+      c .completed .ensures,
+      ← c .before .before .before .one-more .ensures,
+      le-leb _ _ (c .before .before .if1 .taken),
+    )
 
 -- src/moves.rt:317:1
 returns-2 : tie.Need-returns-2
-returns-2 c = rw (c .goes-on .ensures, c .before .with-phase .ensures, ← c .before .before .before .one-more .ensures, lt-leb _ _ (c .before .before .if1 .left))
+returns-2 c =
+    rw (
+      c .goes-on .ensures,
+      c .before .with-phase .ensures,
+      ← c .before .before .before .one-more .ensures,
+      lt-leb _ _ (c .before .before .if1 .left),
+    )
 
 pub after-fill-spec : {M : Type 1} → statement M
 after-fill-spec =

@@ -27,7 +27,13 @@ unfilled-requires c κs = search needs
 
 -- src/moves.rt:129:1
 returns : tie.Need-returns
-returns c = rw (c .unfilled .ensures, c .before .results-of .ensures, c .before .before .complete .ensures, c .before .before .before .idle .ensures)
+returns c =
+    rw (
+      c .unfilled .ensures,
+      c .before .results-of .ensures,
+      c .before .before .complete .ensures,
+      c .before .before .before .idle .ensures,
+    )
 
 pub completed-spec : {M : Type 1} → statement M
 completed-spec =

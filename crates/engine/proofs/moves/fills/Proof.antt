@@ -63,7 +63,14 @@ returns-2 c = search needs
 
 -- src/moves.rt:335:1
 returns-3 : tie.Need-returns-3
-returns-3 c = rw (c .with-fill .ensures, c .before .in-four .ensures, c .before .before .after-fill .ensures, c .before .before .before .before .before .before .phase .given .1)
+returns-3 c =
+    let at₁ = c .before .before .before .before in
+    rw (
+      c .with-fill .ensures,
+      c .before .in-four .ensures,
+      c .before .before .after-fill .ensures,
+      at₁ .before .before .phase .given .1,
+    )
 
 pub fills-spec : {M : Type 1} → statement M
 fills-spec =

@@ -40,7 +40,13 @@ value-or-requires-4 c κs = search needs
 
 -- src/moves.rt:117:1
 returns : tie.Need-returns
-returns c = rw (c .value-or4 .ensures, c .before .value-or3 .ensures, c .before .before .value-or2 .ensures, c .before .before .before .value-or .ensures)
+returns c =
+    rw (
+      c .value-or4 .ensures,
+      c .before .value-or3 .ensures,
+      c .before .before .value-or2 .ensures,
+      c .before .before .before .value-or .ensures,
+    )
 
 pub results-of-spec : {M : Type 1} → statement M
 results-of-spec =

@@ -58,7 +58,13 @@ meets-wrong-requires-4 c κs = search needs
 -- src/place.rt:84:1
 returns : tie.Need-returns
 unfolding someBelow
-returns c = rw (c .meets-wrong4 .ensures, c .before .meets-wrong3 .ensures, c .before .before .meets-wrong2 .ensures, c .before .before .before .meets-wrong .ensures)
+returns c =
+    rw (
+      c .meets-wrong4 .ensures,
+      c .before .meets-wrong3 .ensures,
+      c .before .before .meets-wrong2 .ensures,
+      c .before .before .before .meets-wrong .ensures,
+    )
 
 pub some-meets-wrong-spec : {M : Type 1} → statement M
 some-meets-wrong-spec =

@@ -72,7 +72,8 @@ returns c =
     let same = inv .1 .0 in
     let past : length (c .before .loop .newest) ≤ c .before .loop .r = c .loop-test .left in
     rw (c .before .before .if1 .taken)
-    (filled-done 65535 (c .before .loop .r) entry (c .before .loop .newest) (inv .1 .1) (inv .0) (omega (arith, same, past)))
+    (filled-done 65535 (c .before .loop .r) entry (c .before .loop .newest) (inv .1 .1) (inv .0)
+    (omega (arith, same, past)))
 
 -- src/tables.rt:22:1
 returns-2 : tie.Need-returns-2 Inv-loop μ-loop

@@ -72,7 +72,8 @@ returns c =
     let same = inv .1 .0 in
     let past : length (c .before .loop .results) ≤ c .before .loop .k = c .loop-test .left in
     rw (c .before .before .if1 .taken)
-    (filled-done 0 (c .before .loop .k) entry (c .before .loop .results) (inv .1 .1) (inv .0) (omega (arith, same, past)))
+    (filled-done 0 (c .before .loop .k) entry (c .before .loop .results) (inv .1 .1) (inv .0)
+    (omega (arith, same, past)))
 
 -- src/tables.rt:35:1
 returns-2 : tie.Need-returns-2 Inv-loop μ-loop
