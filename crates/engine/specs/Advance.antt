@@ -37,7 +37,8 @@ use Rattle.engine.specs.Range.{workerAt, outOfRange}
 use Rattle.engine.specs.Rows.{row}
 use Rattle.engine.specs.States.{withRow, withWorker}
 use Rattle.engine.specs.Tables.{notOf, newestOf}
-use Rattle.engine.specs.Workers.{isIdle, idleWorker}
+use Rattle.engine.specs.Workers.{isIdle, idleWorker, oneMore, withValue, countIn, withDecision, withCarry}
+use Rattle.engine.specs.Workers.{withPhase}
 use Rattle.engine.specs.declared.Answer.{Answer}
 use Rattle.engine.specs.declared.Answer.the-variants.{Accepted, Waits, Refused}
 use Rattle.engine.specs.declared.Phase.{Phase}
@@ -172,42 +173,10 @@ withFill move slot contents =
 
 -- ---- the four acts
 
--- one more, of a count that is kept in a byte; 14 refuses those above 4
-abbrev pub oneMore : ℕ → ℕ
-oneMore count = cond (ltb count 255) (count + 1) 255
-
--- a value read is kept behind those before it
-abbrev pub withValue : Worker → ℕ → ℕ → Worker
-withValue worker k contents =
-    record {
-      phase = Reading (oneMore k);
-      transaction = worker .transaction;
-      values = set (worker .values) k contents;
-      contents = worker .contents;
-      carried = worker .carried;
-    }
-
 abbrev pub reads : Worker → ℕ → Seen → Move
 reads worker k (Contents contents) = goesOn (withValue worker k contents)
 reads worker k (NotYet position) = waitsFor position
 reads worker k Unsound = breaks
-
--- the values that a worker has read
-abbrev pub countIn : Phase → ℕ
-countIn Idle = 0
-countIn (Reading values) = values
-countIn (Decided outcome values carries fills) = values
-
--- "once decided, also outcome, new contents, carry marks and how many carries and fills are done"
-abbrev pub withDecision : Worker → Decision → Worker
-withDecision worker decision =
-    record {
-      phase = Decided (decision .outcome) (countIn (worker .phase)) 0 0;
-      transaction = worker .transaction;
-      values = worker .values;
-      contents = decision .contents;
-      carried = decision .carried;
-    }
 
 -- "Deciding runs the actions on the values read"; "the decision when there are no writes, completes the transaction"
 abbrev pub decidesBy : Worker → ℕ → Decision → Move
@@ -219,38 +188,10 @@ decidesBy worker writecount decision =
 abbrev pub decides : Worker → Transaction → Move
 decides worker t = decidesBy worker (t .writecount) (decideOf t (worker .values))
 
--- one more carry is done
-abbrev pub carriedOn : Phase → Phase
-carriedOn Idle = Idle
-carriedOn (Reading values) = Reading values
-carriedOn (Decided outcome values carries fills) = Decided outcome values (oneMore carries) fills
-
--- "its new version holds the preceding version's contents"
-abbrev pub withCarry : Worker → ℕ → ℕ → Worker
-withCarry worker j contents =
-    record {
-      phase = carriedOn (worker .phase);
-      transaction = worker .transaction;
-      values = worker .values;
-      contents = set (worker .contents) j contents;
-      carried = worker .carried;
-    }
-
 abbrev pub carries : Worker → ℕ → Seen → Move
 carries worker j (Contents contents) = goesOn (withCarry worker j contents)
 carries worker j (NotYet position) = waitsFor position
 carries worker j Unsound = breaks
-
--- the worker with its phase changed
-abbrev pub withPhase : Worker → Phase → Worker
-withPhase worker phase =
-    record {
-      phase = phase;
-      transaction = worker .transaction;
-      values = worker .values;
-      contents = worker .contents;
-      carried = worker .carried;
-    }
 
 -- "The last fill .. completes the transaction"
 abbrev pub afterFill : Worker → Outcome → ℕ → ℕ → ℕ → ℕ → Move

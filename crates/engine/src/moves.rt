@@ -2,10 +2,8 @@
 ghost use mathlib.Core.Path.{_≡_};
 ghost use mathlib.Core.Bool.{cond};
 ghost use lib.Dec.{ltb};
-ghost use lib.ListN.{getD, set};
 ghost use Rattle.engine.specs.Advance.{seenOf, unfilled, goesOn, keeps, breaks, waitsFor, resultsOf, completed};
-ghost use Rattle.engine.specs.Advance.{withFill, oneMore, withValue, reads, countIn, withDecision, decidesBy};
-ghost use Rattle.engine.specs.Advance.{carriedOn, withCarry, carries, withPhase, afterFill, fillsIn};
+ghost use Rattle.engine.specs.Advance.{withFill, reads, decidesBy, carries, afterFill, fillsIn};
 ghost use Rattle.engine.specs.LawsAdvance.{moveWith};
 use crate::Answer;
 use crate::Phase;
@@ -165,93 +163,13 @@ fn with_fill(mut step: Move, slot: usize, contents: u64) -> Move
     step
 }
 
-// One more, of a count that is kept in a byte.
-fn one_more(count: u8) -> u8
-    ensures { λ r. ⌜ r ≡ oneMore count ⌝ }
-{
-    if count < 255 { count + 1 } else { 255 }
-}
-
-// Number k of four replaced; past the fourth nothing is.
-fn put_in_four(mut four: [u64; 4], k: u8, number: u64) -> [u64; 4]
-    ensures { λ r. ⌜ r ≡ set four k number ⌝ }
-{
-    if k < 4 {
-        four[k as usize] = number;
-    }
-    four
-}
-
-// Number k of four; past the fourth, 0.
-fn in_four(four: [u64; 4], k: u8) -> u64
-    ensures { λ r. ⌜ r ≡ getD four k 0 ⌝ }
-{
-    if k < 4 { four[k as usize] } else { 0 }
-}
-
-fn with_value(worker: Worker, k: u8, number: u64) -> Worker
-    ensures { λ r. ⌜ r ≡ withValue worker k number ⌝ }
-{
-    let values = worker.values;
-    let contents = worker.contents;
-    let carried = worker.carried;
-    Worker {
-        phase: Phase::Reading {
-            values: one_more(k),
-        },
-        transaction: worker.transaction,
-        values: put_in_four(values, k, number),
-        contents,
-        carried,
-    }
-}
-
 fn reads(worker: Worker, k: u8, seen: Seen) -> Move
     ensures { λ r. ⌜ r ≡ reads worker k seen ⌝ }
 {
     match seen {
-        Seen::Contents(contents) => goes_on(with_value(worker, k, contents)),
+        Seen::Contents(contents) => goes_on(workers::with_value(worker, k, contents)),
         Seen::NotYet(position) => waits_for(position),
         Seen::Unsound => breaks(),
-    }
-}
-
-// The values that a worker has read.
-fn count_in(phase: Phase) -> u8
-    ensures { λ r. ⌜ r ≡ countIn phase ⌝ }
-{
-    match phase {
-        Phase::Idle => 0,
-        Phase::Reading { values } => values,
-        Phase::Decided {
-            outcome: _,
-            values,
-            carries: _,
-            fills: _,
-        } => values,
-    }
-}
-
-// "once decided, also outcome, new contents, carry marks and how many carries and fills are done"
-fn with_decision(worker: Worker, decision: Decision) -> Worker
-    ensures { λ r. ⌜ r ≡ withDecision worker decision ⌝ }
-{
-    let phase = worker.phase;
-    let outcome = decision.outcome;
-    let values = worker.values;
-    let contents = decision.contents;
-    let carried = decision.carried;
-    Worker {
-        phase: Phase::Decided {
-            outcome,
-            values: count_in(phase),
-            carries: 0,
-            fills: 0,
-        },
-        transaction: worker.transaction,
-        values,
-        contents,
-        carried,
     }
 }
 
@@ -263,47 +181,9 @@ fn decides(worker: Worker, writecount: u8, decision: Decision) -> Move
     let phase = worker.phase;
     if writecount == 0 {
         let outcome = decision.outcome;
-        completed(outcome, values, count_in(phase))
+        completed(outcome, values, workers::count_in(phase))
     } else {
-        goes_on(with_decision(worker, decision))
-    }
-}
-
-fn carried_on(phase: Phase) -> Phase
-    ensures { λ r. ⌜ r ≡ carriedOn phase ⌝ }
-{
-    match phase {
-        Phase::Idle => phase,
-        Phase::Reading { values: _ } => phase,
-        Phase::Decided {
-            outcome,
-            values,
-            carries,
-            fills,
-        } => Phase::Decided {
-            outcome,
-            values,
-            carries: one_more(carries),
-            fills,
-        },
-    }
-}
-
-// "its new version holds the preceding version's contents"
-fn with_carry(worker: Worker, j: u8, number: u64) -> Worker
-    ensures { λ r. ⌜ r ≡ withCarry worker j number ⌝ }
-{
-    let before = worker.phase;
-    let values = worker.values;
-    let contents = worker.contents;
-    let carried = worker.carried;
-    let phase = carried_on(before);
-    Worker {
-        phase,
-        transaction: worker.transaction,
-        values,
-        contents: put_in_four(contents, j, number),
-        carried,
+        goes_on(workers::with_decision(worker, decision))
     }
 }
 
@@ -311,24 +191,9 @@ fn carries(worker: Worker, j: u8, seen: Seen) -> Move
     ensures { λ r. ⌜ r ≡ carries worker j seen ⌝ }
 {
     match seen {
-        Seen::Contents(contents) => goes_on(with_carry(worker, j, contents)),
+        Seen::Contents(contents) => goes_on(workers::with_carry(worker, j, contents)),
         Seen::NotYet(position) => waits_for(position),
         Seen::Unsound => breaks(),
-    }
-}
-
-fn with_phase(worker: Worker, phase: Phase) -> Worker
-    ensures { λ r. ⌜ r ≡ withPhase worker phase ⌝ }
-{
-    let values = worker.values;
-    let contents = worker.contents;
-    let carried = worker.carried;
-    Worker {
-        phase,
-        transaction: worker.transaction,
-        values,
-        contents,
-        carried,
     }
 }
 
@@ -343,7 +208,7 @@ fn after_fill(
 ) -> Move
     ensures { λ r. ⌜ r ≡ afterFill worker outcome count carries j writecount ⌝ }
 {
-    let fills = one_more(j);
+    let fills = workers::one_more(j);
     if writecount <= fills {
         let values = worker.values;
         completed(outcome, values, count)
@@ -354,7 +219,7 @@ fn after_fill(
             carries,
             fills,
         };
-        goes_on(with_phase(worker, phase))
+        goes_on(workers::with_phase(worker, phase))
     }
 }
 
@@ -374,7 +239,7 @@ fn fills(worker: Worker, writecount: u8, j: u8) -> Move
             let contents = worker.contents;
             let slot = 4 * worker.transaction as usize + j as usize;
             let after = after_fill(worker, outcome, values, carries, j, writecount);
-            with_fill(after, slot, in_four(contents, j))
+            with_fill(after, slot, workers::in_four(contents, j))
         }
     }
 }

@@ -8,8 +8,8 @@ use Rattle.engine.proofs.moves.after_fill.Reads as reads
 use Rattle.engine.proofs.moves.after_fill.Lts as lts
 use Rattle.engine.proofs.moves.completed.Reads as completed-reads
 use Rattle.engine.proofs.moves.goes_on.Reads as goes-on-reads
-use Rattle.engine.proofs.moves.one_more.Reads as one-more-reads
-use Rattle.engine.proofs.moves.with_phase.Reads as with-phase-reads
+use Rattle.engine.proofs.workers.one_more.Reads as one-more-reads
+use Rattle.engine.proofs.workers.with_phase.Reads as with-phase-reads
 
 -- src/moves.rt:320:9
 one-more-requires : tie.Need-one-more-requires

@@ -7,9 +7,9 @@ use Rattle.engine.proofs.moves.decides.Tie as tie
 use Rattle.engine.proofs.moves.decides.Reads as reads
 use Rattle.engine.proofs.moves.decides.Lts as lts
 use Rattle.engine.proofs.moves.completed.Reads as completed-reads
-use Rattle.engine.proofs.moves.count_in.Reads as count-in-reads
+use Rattle.engine.proofs.workers.count_in.Reads as count-in-reads
 use Rattle.engine.proofs.moves.goes_on.Reads as goes-on-reads
-use Rattle.engine.proofs.moves.with_decision.Reads as with-decision-reads
+use Rattle.engine.proofs.workers.with_decision.Reads as with-decision-reads
 
 -- src/moves.rt:245:36
 count-in-requires : tie.Need-count-in-requires

@@ -6,7 +6,7 @@ use Rattle.engine.proofs.moves.fills.Reads as reads
 use Rattle.engine.proofs.moves.fills.Lts as lts
 use Rattle.engine.proofs.moves.after_fill.Reads as after-fill-reads
 use Rattle.engine.proofs.moves.breaks.Reads as breaks-reads
-use Rattle.engine.proofs.moves.in_four.Reads as in-four-reads
+use Rattle.engine.proofs.workers.in_four.Reads as in-four-reads
 use Rattle.engine.proofs.moves.with_fill.Reads as with-fill-reads
 
 -- src/moves.rt:340:24

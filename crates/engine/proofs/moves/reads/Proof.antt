@@ -7,7 +7,7 @@ use Rattle.engine.proofs.moves.reads.Lts as lts
 use Rattle.engine.proofs.moves.breaks.Reads as breaks-reads
 use Rattle.engine.proofs.moves.goes_on.Reads as goes-on-reads
 use Rattle.engine.proofs.moves.waits_for.Reads as waits-for-reads
-use Rattle.engine.proofs.moves.with_value.Reads as with-value-reads
+use Rattle.engine.proofs.workers.with_value.Reads as with-value-reads
 
 -- src/moves.rt:193:24
 enum-known-seen : tie.Need-enum-known-seen

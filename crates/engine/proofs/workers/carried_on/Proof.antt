@@ -1,10 +1,10 @@
 use native.Mathlib.Omega.{arith}
 use borrow.Author.Needs.{needs}
-use Rattle.engine.proofs.moves.carried_on.Statement.{statement}
-use Rattle.engine.proofs.moves.carried_on.Tie as tie
-use Rattle.engine.proofs.moves.carried_on.Reads as reads
-use Rattle.engine.proofs.moves.carried_on.Lts as lts
-use Rattle.engine.proofs.moves.one_more.Reads as one-more-reads
+use Rattle.engine.proofs.workers.carried_on.Statement.{statement}
+use Rattle.engine.proofs.workers.carried_on.Tie as tie
+use Rattle.engine.proofs.workers.carried_on.Reads as reads
+use Rattle.engine.proofs.workers.carried_on.Lts as lts
+use Rattle.engine.proofs.workers.one_more.Reads as one-more-reads
 
 -- src/moves.rt:245:24
 enum-told : tie.Need-enum-told

@@ -2,10 +2,10 @@ use mathlib.Core.Path.{_≡_, sym, _∙_}
 use lib.ListN.{length, length-map, List·getD-eq-default}
 use native.Mathlib.Omega.{arith}
 use borrow.Author.Needs.{needs}
-use Rattle.engine.proofs.moves.in_four.Statement.{statement}
-use Rattle.engine.proofs.moves.in_four.Tie as tie
-use Rattle.engine.proofs.moves.in_four.Reads as reads
-use Rattle.engine.proofs.moves.in_four.Lts as lts
+use Rattle.engine.proofs.workers.in_four.Statement.{statement}
+use Rattle.engine.proofs.workers.in_four.Tie as tie
+use Rattle.engine.proofs.workers.in_four.Reads as reads
+use Rattle.engine.proofs.workers.in_four.Lts as lts
 
 -- src/moves.rt:169:16
 mul-result : tie.Need-mul-result

@@ -1,10 +1,10 @@
 use native.Mathlib.Omega.{arith}
 use borrow.Author.Needs.{needs}
-use Rattle.engine.proofs.moves.with_decision.Statement.{statement}
-use Rattle.engine.proofs.moves.with_decision.Tie as tie
-use Rattle.engine.proofs.moves.with_decision.Reads as reads
-use Rattle.engine.proofs.moves.with_decision.Lts as lts
-use Rattle.engine.proofs.moves.count_in.Reads as count-in-reads
+use Rattle.engine.proofs.workers.with_decision.Statement.{statement}
+use Rattle.engine.proofs.workers.with_decision.Tie as tie
+use Rattle.engine.proofs.workers.with_decision.Reads as reads
+use Rattle.engine.proofs.workers.with_decision.Lts as lts
+use Rattle.engine.proofs.workers.count_in.Reads as count-in-reads
 
 -- src/moves.rt:227:21
 count-in-requires : tie.Need-count-in-requires

@@ -1,11 +1,11 @@
 use native.Mathlib.Omega.{arith}
 use borrow.Author.Needs.{needs}
-use Rattle.engine.proofs.moves.with_carry.Statement.{statement}
-use Rattle.engine.proofs.moves.with_carry.Tie as tie
-use Rattle.engine.proofs.moves.with_carry.Reads as reads
-use Rattle.engine.proofs.moves.with_carry.Lts as lts
-use Rattle.engine.proofs.moves.carried_on.Reads as carried-on-reads
-use Rattle.engine.proofs.moves.put_in_four.Reads as put-in-four-reads
+use Rattle.engine.proofs.workers.with_carry.Statement.{statement}
+use Rattle.engine.proofs.workers.with_carry.Tie as tie
+use Rattle.engine.proofs.workers.with_carry.Reads as reads
+use Rattle.engine.proofs.workers.with_carry.Lts as lts
+use Rattle.engine.proofs.workers.carried_on.Reads as carried-on-reads
+use Rattle.engine.proofs.workers.put_in_four.Reads as put-in-four-reads
 
 -- src/moves.rt:281:9
 carried-on-requires : tie.Need-carried-on-requires

@@ -3,10 +3,10 @@ use lib.ListN.{length, length-map}
 use mathlib.Core.Path.{_≡_, sym, _∙_}
 use native.Mathlib.Omega.{arith}
 use borrow.Author.Needs.{needs}
-use Rattle.engine.proofs.moves.put_in_four.Statement.{statement}
-use Rattle.engine.proofs.moves.put_in_four.Tie as tie
-use Rattle.engine.proofs.moves.put_in_four.Reads as reads
-use Rattle.engine.proofs.moves.put_in_four.Lts as lts
+use Rattle.engine.proofs.workers.put_in_four.Statement.{statement}
+use Rattle.engine.proofs.workers.put_in_four.Tie as tie
+use Rattle.engine.proofs.workers.put_in_four.Reads as reads
+use Rattle.engine.proofs.workers.put_in_four.Lts as lts
 
 -- src/moves.rt:160:9
 mul-four : tie.Need-mul-four

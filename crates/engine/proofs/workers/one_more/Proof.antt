@@ -2,10 +2,10 @@ use borrow.Author.Tests.{lt-ltb}
 use borrow.Author.Tests.{le-ltb}
 use native.Mathlib.Omega.{arith}
 use borrow.Author.Needs.{needs}
-use Rattle.engine.proofs.moves.one_more.Statement.{statement}
-use Rattle.engine.proofs.moves.one_more.Tie as tie
-use Rattle.engine.proofs.moves.one_more.Reads as reads
-use Rattle.engine.proofs.moves.one_more.Lts as lts
+use Rattle.engine.proofs.workers.one_more.Statement.{statement}
+use Rattle.engine.proofs.workers.one_more.Tie as tie
+use Rattle.engine.proofs.workers.one_more.Reads as reads
+use Rattle.engine.proofs.workers.one_more.Lts as lts
 
 -- src/moves.rt:152:22
 add-result : tie.Need-add-result

@@ -1,11 +1,11 @@
 use native.Mathlib.Omega.{arith}
 use borrow.Author.Needs.{needs}
-use Rattle.engine.proofs.moves.with_value.Statement.{statement}
-use Rattle.engine.proofs.moves.with_value.Tie as tie
-use Rattle.engine.proofs.moves.with_value.Reads as reads
-use Rattle.engine.proofs.moves.with_value.Lts as lts
-use Rattle.engine.proofs.moves.one_more.Reads as one-more-reads
-use Rattle.engine.proofs.moves.put_in_four.Reads as put-in-four-reads
+use Rattle.engine.proofs.workers.with_value.Statement.{statement}
+use Rattle.engine.proofs.workers.with_value.Tie as tie
+use Rattle.engine.proofs.workers.with_value.Reads as reads
+use Rattle.engine.proofs.workers.with_value.Lts as lts
+use Rattle.engine.proofs.workers.one_more.Reads as one-more-reads
+use Rattle.engine.proofs.workers.put_in_four.Reads as put-in-four-reads
 
 -- src/moves.rt:180:21
 one-more-requires : tie.Need-one-more-requires
