@@ -114,10 +114,11 @@ fn waits_for(position: u64) -> Move
 {
     let worker = workers::idle();
     let row = rows::unprocessed();
+    let leaves = true;
     unfilled(
         Answer::Waits(Position(position)),
         worker,
-        true,
+        leaves,
         row,
         false,
         [0; 4],
