@@ -8,7 +8,8 @@
 #            the prefix T the text has T.the-row, T.the-type, T′.the-laws and T′.the-plain in scope
 #   CALLEES  dict(fn=alias of its module, name=name for its contract, params=[(name, type)], ret=type or None,
 #            facts=[(target, term)]); a param's type is a name, 'mut ELEMENT' or 'shr ELEMENT'; a target is 'r', the
-#            result, or a `mut` param; requires=fact, where it has one
+#            result, or a `mut` param; requires=fact, where it has one. Either every target has its fact, or there is no
+#            `ensures` and no fact: the walk then goes on with whatever result and lists come back
 # For a callee with slices the laws take, after the params' values, a block b-p o-p and a count m-p for each slice p,
 # and then for each slice its lifetime κ-p, share q-p and name δ-p:
 #   to-f     what its triple binds outside.        f-lent   the items that go over: for each slice its token, and it
@@ -117,6 +118,16 @@ class Ctx:
         return ' $ '.join(s.out).replace('.  $ ', '. ')
 
 
+def lasting(c):
+    """what a call leaves that the walk has to name: each `mut` slice's last list, and a result without a fact"""
+    out = ['List ' + denot(t.split()[1]) for p, t in c['params'] if t.startswith('mut ')]
+    return out + ([denot(c['ret'])] if c.get('ret') and 'r' not in dict(c['facts']) else [])
+
+
+def last_type(c):
+    return prod(lasting(c)) if lasting(c) else 'Unit {0}'
+
+
 def gen(c):
     f, N, ps = c['fn'], c['name'], c['params']
     slices = [(p, t.split()[0], t.split()[1]) for p, t in ps if ' ' in t]
@@ -176,19 +187,23 @@ def gen(c):
     # what comes back
     facts = dict(c['facts'])
     rt = c.get('ret')
-    lastT = 'Unit {0}' if not muts else prod(['List ' + denot(elem[m]) for m in muts])
+    last = lasting(c)
+    lastT = last_type(c)
     if '×' in lastT:
         lastT = '(%s)' % lastT
-    at = lambda j: 'x' if len(muts) == 1 else 'x' + ' .1' * j + (' .0' if j < len(muts) - 1 else '')
+    at = lambda j: 'x' if len(last) == 1 else 'x' + ' .1' * j + (' .0' if j < len(last) - 1 else '')
+    free = bool(rt) and 'r' not in facts
+    known = [m for m in muts if m in facts]
+    res = at(len(muts)) if free else facts.get('r')
     if rt is None:
         said = ['u ≡ vunit']
     elif TY[rt][0] == 'num':
-        said = ['(u ≡ vint %s (%s)) × (%s < 2 ^ %s)' % (TY[rt][2], facts['r'], facts['r'], TY[rt][2][1:])]
+        said = ['(u ≡ vint %s (%s)) × (%s < 2 ^ %s)' % (TY[rt][2], res, res, TY[rt][2][1:])]
     elif TY[rt][0] == 'bool':
-        said = ['u ≡ vbool (%s)' % facts['r']]
+        said = ['u ≡ vbool (%s)' % res]
     else:
-        said = ['%s.IsValue %s.the-type %s′.the-laws (%s) u' % (V(rt), TY[rt][2], TY[rt][2], facts['r'])]
-    said += ['%s ≡ %s' % (at(j), facts[m]) for j, m in enumerate(muts)]
+        said = ['%s.IsValue %s.the-type %s′.the-laws (%s) u' % (V(rt), TY[rt][2], TY[rt][2], res)]
+    said += ['%s ≡ %s' % (at(j), facts[m]) for j, m in enumerate(muts) if m in facts]
     said += ['length (%s) ≡ length %s' % (at(j), m) for j, m in enumerate(muts)]
     o += ['  abbrev pub %s-said : Val → %s → Type 0' % (f, lastT), '  %s-said u x = %s\n' % (f, prod(said))]
     back = []
@@ -208,9 +223,9 @@ def gen(c):
         toks = '‵ (flft κ-%s q-%s) ⊛ %s' % (p, p, toks)
     zT = nestT(['List ' + denot(t.split()[1]) if t.startswith('mut ') else 'Unit {0}' for p, t in ps])
     zat = lambda p: 'zs' + ' .1' * [n for n, _ in ps].index(p) + ' .0'
-    fs = ['r ≡ %s' % facts['r']] if rt else []
-    fs += ['%s ≡ %s' % (zat(m), facts[m]) for m in muts]
-    F = prod(fs)
+    fs = ['r ≡ %s' % facts['r']] if rt and not free else []
+    fs += ['%s ≡ %s' % (zat(m), facts[m]) for m in known]
+    F = prod(fs) if fs else None
     path = lambda j: 'e' + ' .1' * j + (' .0' if j < len(fs) - 1 else '') if len(fs) > 1 else 'e'
     y = Ctx(['lasts', 'TO'])
     opens = 0
@@ -241,6 +256,9 @@ def gen(c):
         y.bring('toks')
     if rt is None:
         proofs = ['ap only w']
+    elif free:
+        proofs = ['(ap only (is .0), is .1)' if TY[rt][0] == 'num' else 'ap only is' if TY[rt][0] == 'bool' else
+                  '%s.is-value %s.the-type %s′.the-laws r r u refl is' % (V(rt), TY[rt][2], TY[rt][2])]
     elif TY[rt][0] == 'num':
         proofs = ['(ap only (is .0) ∙ ap (vint %s) (%s), subst (λ (z : ℕ). z < 2 ^ %s) (%s) (is .1))' % (
             TY[rt][2], path(0), TY[rt][2][1:], path(0))]
@@ -249,8 +267,8 @@ def gen(c):
     else:
         proofs = ['%s.is-value %s.the-type %s′.the-laws r (%s) u (%s) is' % (
             V(rt), TY[rt][2], TY[rt][2], facts['r'], path(0))]
-    proofs += [path((1 if rt else 0) + j) for j, m in enumerate(muts)] + ['n-' + m for m in muts]
-    wit = 'tt' if not muts else pair([zat(m) for m in muts])
+    proofs += [path((1 if rt and not free else 0) + j) for j, m in enumerate(known)] + ['n-' + m for m in muts]
+    wit = 'tt' if not last else pair([zat(m) for m in muts] + (['r'] if free else []))
     want = [s for p, k, e in slices for s in (['t-' + p] + (['fin-' + p] if k == 'mut' else []))]
     y.op('at-once ! $ show ! (%s-after u) (%s) $ check ! (%s) $ keep ! (%s) $ done !' % (
         f, wit, pair(proofs), ''.join('%d ∷ ' % y.l.index(w) for w in want) + '[]'))
@@ -259,8 +277,9 @@ def gen(c):
           '      use1 W (later (some (λ (r : %s). ((%s) ⊛ ‵ (%s .own r (u ∷ []))) ⊛ raw (ensured 𝓤 H A %s.ended '
           '(%s.clauses %s) %s args-%s tt r)))) (id⊢ 𝓤 _) $ await ! tt $ pick ! (λ r.' % (RD, toks, RR, f, f, M, κs, f),
           '      split ! $ move ! (1 ∷ []) $ use1 W (some (λ (zs : %s). ‵ (lasts %s.ended %s args-%s zs) ⊛ '
-          'raw (fact 𝓤 (%s)))) (id⊢ 𝓤 _) $ pick ! (λ zs.' % (zT, f, κs, f, F),
-          '      split ! $ move ! (1 ∷ []) $ heard ! (%s) (λ e. %s%s' % (F, y.text(), ')' * (opens + 3)), '']
+          'raw (%s))) (id⊢ 𝓤 _) $ pick ! (λ zs.' % (zT, f, κs, f, 'fact 𝓤 (%s)' % F if F else 'emp 𝓤'),
+          '      split ! $ move ! (1 ∷ []) $ %s %s%s' % ('heard ! (%s) (λ e.' % F if F else 'drop ! $', y.text(),
+                                                        ')' * (opens + (3 if F else 2))), '']
     return '\n'.join(o)
 
 

@@ -1,9 +1,9 @@
 #!/usr/bin/env python3
 # usage: python3 tools/draft.py CRATE FN[:UNFOLD,..]..
-# Drafts the open `returns` of functions that call others, branch and match: each becomes an `rw` with the equations that
-# are known there. First those of the calls after the last branch, then those of the enums, and then, from the first on,
-# each call that fed a branch, from right to left, with what the branch told. UNFOLD are definitions of the crate's specs
-# that the answer opens. A proof file with holes must be there, as `rt dev CRATE` prints it.
+# Drafts the open `returns` of functions that call others, branch and match: each becomes an `rw` with the equations
+# that are known there. First those of the calls after the last branch, then those of the enums, and then, from the first
+# on, each call that fed a branch, from right to left, with what the branch told. UNFOLD are definitions of the crate's
+# specs that the answer opens. A proof file with holes must be there, as `rt dev CRATE` prints it.
 import glob
 import os
 import re
@@ -92,7 +92,8 @@ def laid(head, facts):
     facts = [re.sub(r'(?<![\w.])c((?: \.before)+)', short, f) for f in facts]
     out = [head + ' =']
     for k in range(max(far)):
-        out.append('    let at%s = %s .before .before .before .before in' % (LOWER[k], 'at' + LOWER[k - 1] if k else 'c'))
+        nearer = 'at' + LOWER[k - 1] if k else 'c'
+        out.append('    let at%s = %s .before .before .before .before in' % (LOWER[k], nearer))
     return '\n'.join(out + ['    rw ('] + ['      %s,' % f for f in facts] + ['    )'])
 
 

@@ -10,7 +10,10 @@
 #   CALLEES' entries have path=(module of the function, name of `code.calls-..`) and made=module of the facts
 #   loop     dict(index=local, count=what the index stays below, fits=that this is below 2^64,
 #            slices={param: (its list at turn {i}, that it is as long as at first, that a turn leads to the next)},
-#            locals={local: what it holds at turn {i}})
+#            locals={local: what it holds at turn {i}}); or free=param: the one slice that a turn changes, and that
+#            nothing is said of
+#            A function with no `ensures` has facts=[], and among its `uses` the step `silent` at its exit
+# A branch `if c { .. return ..; }` may stand in the line. A local array `[x; n]`, written whole, may be lent.
 # The contract is to be the composition of the callees' definitions. Names of params: not a, at, i, n, C, from, and none
 # of the kit's.
 import copy
@@ -22,6 +25,7 @@ sys.argv, argv = [sys.argv[0], sys.argv[1]], sys.argv
 base = runpy.run_path(argv[0].replace('straight.py', 'callee.py'))
 TY, V, LAWS, row, denot, machine, good, own, nest, nestT, prod, pair, Ctx, spec, uses = (
     base[k] for k in 'TY V LAWS row denot machine good own nest nestT prod pair Ctx spec uses'.split())
+lasting, last_type = base['lasting'], base['last_type']
 CAL = {c['fn']: c for c in spec['CALLEES']}
 F = spec['FUNCS'][argv[3]]
 
@@ -78,8 +82,12 @@ mem, Wm = '𝓤 H A mem run', '𝓤 H A W mem run'
 place = lambda p: (int(p[1]), lst(p[2]))
 par = lambda t: t if re.match(r"^[\w₀-₉-]+$", t) else '(%s)' % t
 fill = lambda t, e: re.sub(r"[A-Za-z][\w-]*", lambda m: e.get(m.group(0), m.group(0)), t)
-sliceT = lambda p: 'tt, (tt, (record { fits = room-%s .0 }, tt))' % p
+ARRAYS = {}
+sliceT = lambda p: 'tt, (tt, (record { fits = %s }, tt))' % ('lit< tt' if p in ARRAYS else 'room-%s .0' % p)
+spot = lambda p: '%s 0 %s' % ARRAYS[p] if p in ARRAYS else 'b-%s o-%s m-%s' % (p, p, p)
 AT = 'i .0'
+FREE = (loop or {}).get('free')
+NEXT = 'next less %s refl' % FREE if FREE else 'next less'
 
 
 def valT(t, term, g):
@@ -105,6 +113,8 @@ class Walk:
         for j, (p, t) in enumerate(ps):
             s.env[j + 1] = ('slice', p) if ' ' in t else ('val', t, p, 'g-' + p)
         s.full = set(s.env)
+        s.within = False
+        s.arrays = {}
 
     def pos(s, k):
         return s.x.l.index('L%d' % k)
@@ -134,7 +144,7 @@ class Walk:
                 p = s.env[k][1]
                 return a, ('ptr', p) if i == 0 else ('val', 'usize', 'm-' + p, 'room-%s .0' % p)
             return (a, ('val',) + s.field(k, i))
-        return '(lit ! tt)', ('val', 'usize', str(o[-1]), 'lit< tt')
+        return '(big-lit ! (lit< tt))' if 1024 < int(o[-1]) else '(lit ! tt)', ('val', 'usize', str(o[-1]), 'lit< tt')
 
     def opds(s, os):
         return '(no-more !)' if not os else '(and-then ! %s %s)' % (s.opd(os[0])[0], s.opds(os[1:]))
@@ -148,7 +158,11 @@ class Walk:
         (k, _), r = place(b[1]), b[2]
         put = 'assigns-last' if last else 'assigns'
         if r[0] == 'addrOf':
-            v, _ = place(r[1])
+            v, st = place(r[1])
+            if not st:
+                s.op('%s ! (addr ! (from ! (stop !))) %s' % (put, s.store(k, '(tt, tt)')))
+                s.env[k] = ('ptr', s.env[v][1])
+                return
             s.op('%s ! (addr ! (from ! (fld ! refl (hop ! (look-in ! %d (sub ! 0 refl (whole !))) (stop !))))) %s' % (
                 put, s.pos(v), s.store(k, '(tt, tt)')))
             s.env[k] = ('ptr', s.env[v][1])
@@ -163,18 +177,48 @@ class Walk:
             g = 'wider-%s (%s)' % (TY[d[1]][2], d[3]) if TY[d[1]][2] != 'w64' else d[3]
             s.op('%s ! (un ! %s (record { fits = %s })) %s' % (put, a, g, s.store(k, '(tt, record { fits = %s })' % g)))
             s.env[k] = ('val', 'usize', d[2], g)
-        elif r[0] == 'op2' and r[1][0] == 'lt':
+        elif r[0] == 'repeat':
+            s.repeat(k, r)
+        elif r[0] == 'op2' and (r[1] == 'eq' or r[1][0] == 'lt'):
             a, b = s.opd(r[2])[0], s.opd(r[3])[0]
             s.op('%s ! (bin ! %s %s tt) %s' % (put, a, b, s.store(k, '(tt, tt)')))
             s.env[k] = ('val', 'bool', '', 'tt')
         elif r[0] == 'op2':
-            s.op('%s ! (bin ! %s (lit ! tt) (record { fits = fits (next less) })) %s' % (
-                put, s.opd(r[2])[0], s.store(k, '(tt, record { fits = fits (next less) })')))
+            s.op('%s ! (bin ! %s (lit ! tt) (record { fits = fits (%s) })) %s' % (
+                put, s.opd(r[2])[0], NEXT, s.store(k, '(tt, record { fits = fits (%s) })' % NEXT)))
         else:
             a, d = s.opd(r[1])
             s.op('%s ! (of-opd ! %s) %s' % (put, a, s.store(k, '(tt, tt)' if d is None else valT(*d[1:]))))
             if d:
                 s.env[k] = d
+
+    def repeat(s, k, r):
+        """an array written whole, and taken apart into its elements"""
+        (v, _), count = place(r[1][1]), r[2]
+        _, t, term, g = s.env[v]
+        R, T = row(t), TY[t][2]
+        p, loc, list_ = 'own-%d' % k, 'l-%d' % k, 'replicate %s %s' % (count, par(term))
+        val = 'arrayVal (replicate %s (%s))' % (count, machine(t, par(term)))
+        s.x.push(own(t, par(term), par(g)), 'all')
+        s.op('use1 W (‵ (Array %s %s .own (%s) (%s ∷ []))) (array-repeat 𝓤 H A W %s (LL.copy %s.the-type %s′.the-copy '
+             '𝓤 H A W) %s %s (%s))' % (R, count, list_, val, R, T, T, count, par(term), machine(t, par(term))))
+        s.op('peeks ! (Array %s %s) (Is (Array %s %s)) (shows 𝓤 H A (Array %s %s)) (%s) (%s ∷ []) (λ is. ' % (
+            R, count, R, count, R, count, list_, val))
+        s.close += 1
+        a = s.opd(r[1])[0]
+        s.op('assigns ! (rep ! %s %s) %s' % (count, a, s.store(
+            k, '(array-lawful 𝓤 H A W %s (LL.lawful %s.the-type %s′.the-laws 𝓤 H A W) %s .typed (%s) _ is .0)' % (
+                R, T, T, count, list_))))
+        s.full.discard(k)
+        s.x.bring('L%d' % k, 'all')
+        s.op('use2 W (‵ (row %s fullShare (%s) %s 0)) (array-in 𝓤 H A W %s %s %s 0 tt (%s) (%s))' % (
+            R, list_, loc, R, count, loc, list_, val))
+        s.x.l[:2] = ['S-' + p]
+        ARRAYS[p] = (loc, count)
+        SL[p] = ('own', t)
+        s.cur[p], s.leng[p] = list_, 'length-replicate %s %s' % (count, par(term))
+        s.arrays[k] = p
+        s.env[k] = ('slice', p)
 
     def call(s, b):
         x, cur = s.x, s.cur
@@ -196,9 +240,17 @@ class Walk:
         old, lifes = dict(cur), {}
         lender = lambda p: '𝓤 H A W %s b-%s o-%s m-%s %s (%s) room-%s ! tt κ-%s q-%s δ-%s' % (
             row(SL[p][1]), p, p, p, par(old[p]), s.leng[p], p, p, p, p)
+        owner = lambda p: '𝓤 H A W %s %s %s (%s) (lit< tt, lit< tt) ! tt' % (
+            row(SL[p][1]), spot(p), par(old[p]), s.leng[p])
         for cp, ck, p in loans:
             k, e = SL[p]
-            if k == 'mut':
+            if k == 'own':
+                x.bring('S-' + p)
+                s.op('lend-own %s (λ ν-%s%d δ-%s%d. ' % (owner(p), cp, n, cp, n))
+                s.close += 1
+                x.l[:1] = ['tk-' + cp, 'hd-' + cp, 'kp-' + cp]
+                lifes[cp] = ('(ν-%s%d ∷ [])' % (cp, n), 'fullShare', 'δ-%s%d' % (cp, n))
+            elif k == 'mut':
                 x.bring('S-' + p, 'T-' + p)
                 s.op('%s %s (λ ν-%s%d δ-%s%d. ' % ('lend-mut' if ck == 'mut' else 'lend-shr', lender(p), cp, n, cp, n))
                 s.close += 1
@@ -213,7 +265,7 @@ class Walk:
                 x.part('split !', 'hd-' + cp, 'S-' + p)
                 x.l[x.l.index('T-' + p)] = 'tk-' + cp
                 lifes[cp] = ('κ-' + p, 'q-' + p, 'δ-' + p)
-        inst = ' '.join([Wm] + [sub[cp] for cp, _ in c['params']] + ['b-%s o-%s m-%s' % (p, p, p) for _, _, p in loans]
+        inst = ' '.join([Wm] + [sub[cp] for cp, _ in c['params']] + [spot(p) for _, _, p in loans]
                         + [' '.join(lifes[cp]) for cp, _, _ in loans])
         x.bring(*[y for cp, _, _ in loans for y in ('tk-' + cp, 'hd-' + cp)])
         N = 2 * len(loans)
@@ -223,8 +275,9 @@ class Walk:
         s.op('calls-at ! fm (%s %s) k-%s (to-%s %s) %s (λ u%d. ' % (c['name'], mem, f, f, inst, s.opds(os), n))
         s.close += 1
         muts = [(cp, p) for cp, ck, p in loans if ck == 'mut']
-        LT = prod(['List ' + denot(SL[p][1]) for _, p in muts]) if muts else 'Unit {0}'
-        at = lambda j: 'x' if len(muts) == 1 else 'x' + ' .1' * j + (' .0' if j < len(muts) - 1 else '')
+        LT = last_type(c)
+        count = len(lasting(c))
+        at = lambda j: 'x' if count == 1 else 'x' + ' .1' * j + (' .0' if j < count - 1 else '')
         items = []
         for cp, ck, p in loans:
             items.append(('tk-' + cp, '‵ (flft %s %s)' % lifes[cp][:2]))
@@ -244,23 +297,36 @@ class Walk:
         if items:
             x.l[x.l.index('back')] = items[-1][0]
         facts = {k: fill(v, sub) for k, v in c['facts']}
-        total = 1 + 2 * len(muts)
+        known = [cp for cp, _ in muts if cp in facts]
+        total = 1 + len(known) + len(muts)
         sp = lambda j: 's%d' % n if total == 1 else 's%d' % n + ' .1' * j + (' .0' if j < total - 1 else '')
         for cp, ck, p in loans:
             k, e = SL[p]
-            if k == 'mut' and ck == 'mut':
+            if k == 'own':
                 j = [q for q, _ in muts].index(cp)
                 x.bring('tk-' + cp, 'fin-' + cp, 'kp-' + cp)
                 last = at(j).replace('x', 'x%d' % n, 1)
-                s.op('back-mut %s ν-%s%d %s (%s) (%s) (' % (
-                    lender(p), cp, n, lifes[cp][2], last, sp(1 + len(muts) + j)))
+                s.op('back-own %s ν-%s%d %s (%s) (' % (owner(p), cp, n, lifes[cp][2], last))
+                s.close += 1
+                x.l[:3] = ['S-' + p]
+                s.leng[p] = '%s ∙ %s' % (sp(1 + len(known) + j), s.leng[p])
+                cur[p] = last
+            elif k == 'mut' and ck == 'mut':
+                j = [q for q, _ in muts].index(cp)
+                x.bring('tk-' + cp, 'fin-' + cp, 'kp-' + cp)
+                last = at(j).replace('x', 'x%d' % n, 1)
+                long = sp(1 + len(known) + j)
+                s.op('back-mut %s ν-%s%d %s (%s) (%s) (' % (lender(p), cp, n, lifes[cp][2], last, long))
                 s.close += 1
                 x.l[:3] = ['S-' + p, 'T-' + p]
-                s.op('rewrite ! 0 (λ (l : List %s). ‵ (holds %s b-%s o-%s m-%s κ-%s δ-%s l)) (%s) refl' % (
-                    denot(e), row(e), p, p, p, p, p, sp(1 + j)))
-                s.leng[p] = 'sym (ap (λ (l : List %s). length l) (%s)) ∙ %s ∙ %s' % (
-                    denot(e), sp(1 + j), sp(1 + len(muts) + j), s.leng[p])
-                cur[p] = facts[cp]
+                s.leng[p] = '%s ∙ %s' % (long, s.leng[p])
+                cur[p] = last
+                if cp in facts:
+                    eq = sp(1 + known.index(cp))
+                    s.op('rewrite ! 0 (λ (l : List %s). ‵ (holds %s b-%s o-%s m-%s κ-%s δ-%s l)) (%s) refl' % (
+                        denot(e), row(e), p, p, p, p, p, eq))
+                    s.leng[p] = 'sym (ap (λ (l : List %s). length l) (%s)) ∙ %s' % (denot(e), eq, s.leng[p])
+                    cur[p] = facts[cp]
             elif k == 'mut':
                 x.bring('tk-' + cp, 'kp-' + cp)
                 s.op('back-shr %s ν-%s%d (' % (lender(p), cp, n))
@@ -276,6 +342,7 @@ class Walk:
             s.op('land ! %s' % s.store(dest, '(unit-typed u%d (%s))' % (n, sp(0))))
             s.env[dest] = None
             return
+        facts.setdefault('r', at(len(muts)).replace('x', 'x%d' % n, 1))
         kk, term, g, eq = TY[ct], facts['r'], '%s .1' % sp(0), '%s .0' % sp(0)
         if kk[0] == 'num':
             ty = 'num-typed %s u%d %s (%s)' % (kk[2], n, par(term), sp(0))
@@ -290,9 +357,14 @@ class Walk:
 
     def ret(s, proofs):
         x = s.x
-        s.op('returns ! (look ! %d refl)' % s.pos(0))
+        s.op('%s (look ! %d refl)' % ('returns-within ! Post refl' if s.within else 'returns !', s.pos(0)))
         for k in sorted(s.full):
             s.op('forget ! %d refl' % s.pos(k))
+        for k, p in s.arrays.items():
+            x.bring('S-' + p)
+            s.op('use1 W (‵ (froom (τ %d) l-%d 0)) (array-out 𝓤 H A W %s %s l-%d 0 %s (%s))' % (
+                k, k, row(SL[p][1]), ARRAYS[p][1], k, par(s.cur[p]), s.leng[p]))
+            x.l[0] = 'L%d' % k
         for k in range(nloc):
             x.bring('L%d' % k, 'L%dd' % k)
             s.op('free1 !')
@@ -308,7 +380,22 @@ class Walk:
             s.op('by ! (exits %s %s %s %s %s)' % (par(s.env[0][2]), zs, es, ls,
                                                  '(%s)' % s.env[0][3] if good(rt, 'h') else ''))
 
-    def run(s, stm):
+    def choose(s, b, rest, number):
+        """a branch whose one arm returns; what follows is walked in the other"""
+        test = s.opd(b[1])[0]
+        arm, other = copy.deepcopy(s), copy.deepcopy(s)
+        for t in (arm, other):
+            t.x.out, t.close = [], 0
+        arm.within = True
+        arm.run(flat(b[2]))
+        other.calls = arm.calls
+        env = '(envOf mir′.locals (%s ∷ []))' % ' ∷ '.join('l-%d' % k for k in range(nloc))
+        other.op('skips ! $ exec ! C Λ %s mir′.t-%d (atRet %s Post)' % (env, number, env))
+        other.run(rest, number - 1)
+        s.op('first ! $ branches ! %s\n        (λ on.\n        %s%s)\n        (λ off.\n        %s%s)' % (
+            test, arm.text(arm.x.out), ')' * arm.close, other.text(other.x.out), ')' * other.close))
+
+    def run(s, stm, past=0):
         for j, b in enumerate(stm):
             h = b if isinstance(b, str) else b[0]
             if h == 'assign':
@@ -317,6 +404,9 @@ class Walk:
                 s.call(b)
             elif h == 'return':
                 s.ret(F.get('exit') or ['refl'] * len(F['facts']))
+            elif h == 'if':
+                s.choose(b, stm[j + 1:], past + j + 2)
+                return
             elif h == 'block':
                 s.loop(flat(b[1][1]), stm[j + 1:], j + 2)
                 return
@@ -327,6 +417,10 @@ class Walk:
         """the loop, whose turn is a walk of its own; what follows it is walked where the turn leaves it"""
         global turns_text
         x, ix = s.x, loop['index']
+        for k in sorted(s.full):
+            if s.env[k] is None:
+                s.op('forget ! %d refl' % s.pos(k))
+                s.full.discard(k)
         order = heads + ['L%d%s' % (k, d) for k in reversed(range(nloc)) for d in ('', 'd')]
         x.bring(*order)
         t = copy.deepcopy(s)
@@ -347,6 +441,8 @@ class Walk:
         for p, (term, long, _) in loop.get('slices', {}).items():
             t.cur[p] = term.replace('{i}', '(%s)' % AT)
             t.leng[p] = long.replace('{i}', '(%s)' % AT)
+        if FREE:
+            t.cur[FREE], t.leng[FREE] = 'i .1 .1 .0', 'i .1 .1 .1'
         cells = []
         for p, k, e in slices:
             cells.append('‵ (%s %s b-%s o-%s m-%s κ-%s δ-%s %s)' % (
@@ -380,7 +476,8 @@ class Walk:
         for k, term in loop.get('locals', {}).items():
             t.op('rewrite ! %d (λ (k : ℕ). ‵ (fat fullShare (τ %d) l-%d 0 (%s))) (sym (add-one (%s))) refl' % (
                 t.pos(k), k, k, machine(t.env[k][1], '(%s)' % term.replace('{i}', 'k')), AT))
-        t.op('again ! Nearer At i (next less) (add-one-dec n (%s) (ltb→lt (%s) n less))' % (AT, AT))
+        there = 'next less %s (%s)' % (par(t.cur[FREE]), t.leng[FREE]) if FREE else NEXT
+        t.op('again ! Nearer At i (%s) (add-one-dec n (%s) (ltb→lt (%s) n less))' % (there, AT, AT))
         # the loop is left
         over.calls = t.calls
         over.op('jumps ! $ exec ! C Λ En mir′.t-%d (atRet En Post)' % number)
@@ -392,12 +489,16 @@ class Walk:
         over.run(rest[:-1])
         over.ret(ends)
         ls = ' '.join('l-%d' % k for k in range(nloc))
+        up = 'add-one-le (ltb→lt (i .0) n less)'
+        kept = '(l : List %s) → length l ≡ m-%s' % (denot(SL[FREE][1]), FREE) if FREE else ''
+        upto = '(i : ℕ) × ((i ≤ n) × (%s))' % kept.replace('→', '×').replace('length', '(length').replace(
+            FREE, FREE + ')') if FREE else '(i : ℕ) × (i ≤ n)'
         turns_text = '''  abbrev n : ℕ
   n = %s
 
   -- the turns so far, at most n; a turn brings the walk nearer to n
   abbrev Upto : Type 0
-  Upto = (i : ℕ) × (i ≤ n)
+  Upto = %s
 
   abbrev Nearer : Upto → Upto → Type 0
   Nearer j i = n - j .0 < n - i .0
@@ -438,14 +539,17 @@ class Walk:
         %s%s)
         where
           fits : (j : Upto) → j .0 < 2 ^ 64
-          fits j = lt-of-le-of-lt (j .1) %s
+          fits j = lt-of-le-of-lt (%s) %s
 
-          next : Holds (ltb (i .0) n) → Upto
-          next less = (i .0 + 1, add-one-le (ltb→lt (i .0) n less))
-''' % (loop['count'], ' '.join(params), ls, ' ∷ '.join(ls.split()), ' ∷ '.join(cells), number, t.text(tests), test,
-       t.text(t.x.out), ')' * t.close, over.text(over.x.out), ')' * over.close, par(loop['fits']))
-        s.op('first ! $ blocks ! $ loops ! 𝓣 Nearer Nearer-wf (At %s %s) (turns %s %s) (0, zero-le)' % (
-            ' '.join(given), ls, ' '.join(given), ls))
+          next : Holds (ltb (i .0) n) → %sUpto
+          next less%s = (i .0 + 1, %s)
+''' % (loop['count'], upto, ' '.join(params), ls, ' ∷ '.join(ls.split()), ' ∷ '.join(cells), number, t.text(tests),
+       test, t.text(t.x.out), ')' * t.close, over.text(over.x.out), ')' * over.close,
+       'j .1 .0' if FREE else 'j .1', par(loop['fits']), kept + ' → ' if FREE else '', ' l e' if FREE else '',
+       '(%s, (l, e))' % up if FREE else up)
+        first = '(zero-le, (%s, %s))' % (s.cur[FREE], s.leng[FREE]) if FREE else 'zero-le'
+        s.op('first ! $ blocks ! $ loops ! 𝓣 Nearer Nearer-wf (At %s %s) (turns %s %s) (0, %s)' % (
+            ' '.join(given), ls, ' '.join(given), ls, first))
 
 
 turns_text = ''
@@ -485,6 +589,10 @@ o.append('-- `%s` meets its contract: a walk of its code, made by tools/straight
 o.append(uses['WALK'])
 if loop:
     o.append(uses['LOOP'])
+if ' branches ! ' in body and not loop:
+    o.append(uses['BRANCH'])
+if ARRAYS:
+    o.append(uses['OWN'])
 o.append(spec['USES'])
 o += ['use ' + u for u in F.get('uses', [])]
 for f in used:
@@ -565,7 +673,7 @@ e = Ctx(heads)
 e.op('suffices ! _ (ends-at 𝓤 H A own.ended stayed (own.clauses %s) W %s (%s) %s %s %s)' % (
     mem, y0, rv, 'tt' if rt is None else 'h', nest(['z-' + p if t.startswith('mut') else 'tt' for p, t in ps]),
     nest(['n-' + p if t.startswith('mut') else 'tt' for p, t in ps])))
-e.op('says ! %s' % pair(en))
+e.op('says ! %s' % pair(en) if en else 'silent !')
 e.push('nothing !', 'toks')
 for p, _, _ in reversed(slices):
     e.bring('T-' + p, 'toks')
@@ -582,8 +690,8 @@ for p, t in reversed(ps):
 e.op('frame !')
 e.op('feqI ! (List Val) (vunit ∷ []) (vunit ∷ []) refl' if rt is None else own(rt, 'h', 'g-h'))
 e.op('done !')
-o.append('  exits : %s%s → ent 𝓤 (⋆ 𝓤 H A (%s)) (Post (%s))\n  exits %s =\n      qed W (%s) ∵ %s\n' % (
-    sig, ''.join(' → %s' % h for h in hyp), had, rv,
+o.append('  exits : %sent 𝓤 (⋆ 𝓤 H A (%s)) (Post (%s))\n  exits %s =\n      qed W (%s) ∵ %s\n' % (
+    sig + ''.join(' → %s' % h for h in hyp) + ' → ' if sig else '', had, rv,
     ' '.join((['h'] if rt else []) + ['z-' + p for p, _ in ms] + names), had, e.text()))
 ks = ' '.join('(k-%s : Triple 𝓤 (𝓣 .C #%s) (%s %s))' % (f, f, CAL[f]['name'], mem) for f in used)
 vs = ' ∷ '.join('sliceVal (b-%s, o-%s) m-%s' % (p, p, p) if ' ' in t else machine(t, p) for p, t in ps) + ' ∷ []'

@@ -100,3 +100,17 @@ use base.Fml.{froom, fdies}
 use prog.Wp.{Out, Env, afterSeq, afterBlock, afterTurn, Wp, atReturn}
 use types.Kit.{Sq, runs, anyQ, atRet}
 use types.Run.{bin, assigns-last, first, blocks, branches, skips, jumps, exec, Below, again, loops}'''
+
+
+BRANCH = '''use types.Kit.{atRet}
+use types.Run.{bin, first, branches, skips, exec, returns-within}'''
+
+OWN = '''use lib.ListN.{replicate, length-replicate}
+use base.Fml.{froom}
+use types.Part.{rep}
+use denote.Laws.{shows}
+use denote.Array.{Array, arrayVal, array-lawful, array-repeat}
+use denote.Index.{row}
+use denote.Steps.{peeks}
+use Rattle.walks.proofs.Own.{array-in, array-out}
+use Rattle.walks.proofs.Loans.{lend-own, back-own}'''

@@ -1,0 +1,4 @@
+pub mod Engine
+pub mod Versions
+pub mod Tables
+pub mod Print
