@@ -8,7 +8,7 @@ use Rattle.packed.specs.Encode.{actionBytes, setBytes, encode}
 use Rattle.packed.specs.Form.{actionNonzero, nonzero, malformed}
 use Rattle.packed.specs.Kinds.{usesOf}
 use Rattle.packed.specs.Records.{someOf, noSuchRecord, notAscending, undeclaredRead, undeclaredWrite}
-use Rattle.counters.specs.Instances.{listing}
+use Rattle.counters.specs.Listing.{listing}
 use Rattle.counters.specs.LawsAgreement.{AllAccepted, accepted-log}
 use Rattle.counters.specs.OneByOne.{oneByOne}
 use Rattle.counters.specs.Storing.{decidedRun}

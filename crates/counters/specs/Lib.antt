@@ -1,7 +1,6 @@
 pub mod Actions
 pub mod Deciding
 pub mod Declarations
-pub mod Instances
 pub mod LawsActions
 pub mod LawsAgreement
 pub mod LawsDecision
@@ -13,6 +12,7 @@ pub mod LawsPlaces
 pub mod LawsRelated
 pub mod LawsStoring
 pub mod LawsValues
+pub mod Listing
 pub mod OneByOne
 pub mod Storing
 pub mod Unique

@@ -54,3 +54,9 @@ andThen (Fails refusal place) later = Fails refusal place
 abbrev pub isAccepted : Verdict → Bool
 isAccepted Passed = true
 isAccepted (Fails refusal place) = false
+
+-- the answer is a refusal
+abbrev pub isRefused : Answer → Bool
+isRefused Accepted = false
+isRefused (Waits position) = false
+isRefused (Refused refusal place) = true

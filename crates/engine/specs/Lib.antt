@@ -8,10 +8,12 @@ pub mod LawsActs
 pub mod LawsAdvance
 pub mod LawsClaim
 pub mod LawsCounting
+pub mod LawsEntries
 pub mod LawsMake
 pub mod LawsOpen
 pub mod LawsPlace
 pub mod LawsRange
+pub mod LawsRefused
 pub mod LawsSeal
 pub mod LawsTables
 pub mod Make
@@ -20,8 +22,10 @@ pub mod Open
 pub mod Place
 pub mod Range
 pub mod Rows
+pub mod Running
 pub mod Seal
 pub mod States
 pub mod Tables
+pub mod Theorems
 pub mod Unique
 pub mod Workers

@@ -3,7 +3,6 @@ pub mod Table
 pub mod Step
 pub mod Chain
 pub mod Seal
-pub mod Instances
 pub mod LawsTable
 pub mod LawsFollow
 pub mod LawsSeal

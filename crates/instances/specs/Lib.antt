@@ -1,0 +1,9 @@
+pub mod Steps
+pub mod Listing
+pub mod Moments
+pub mod Differences
+pub mod Answers
+pub mod Impostors
+pub mod Pretenders
+pub mod Designs
+pub mod Instances
