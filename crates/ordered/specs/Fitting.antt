@@ -15,7 +15,7 @@ use Rattle.counters.specs.LawsDecision.{decided-shaped}
 use Rattle.counters.specs.Storing.{inFour}
 use Rattle.counters.specs.declared.Outcome.{Outcome}
 use Rattle.engine.specs.Acts.{marksOf, unfit}
-use Rattle.engine.specs.Advance.{workFits, advanceVerdict}
+use Rattle.engine.specs.Advance.{wrongForAdvance, workFits, advanceVerdict}
 use Rattle.engine.specs.Place.{meaningAt}
 use Rattle.engine.specs.Range.{workerAt}
 use Rattle.engine.specs.Tables.{notOf}
@@ -114,8 +114,18 @@ module _ (B : order.Batch ℕ Outcome) (o : State) (log stored : List ℕ) (d : 
       rw (eq-eqb (length (e .records)) (e .state .records)
       (ap length (stands .records-are) ∙ d .stored-length ∙ sym (stands .fixed .records-fixed)))
 
-  pub results-right : notOf (length (e .results)) 256 ≡ false
+  results-right : notOf (length (e .results)) 256 ≡ false
   results-right = rw (eq-eqb (length (e .results)) 256 (stands .results-length))
+
+  pub advance-lent : wrongForAdvance (e .state) (length (e .records)) (length (e .newest)) (length (e .versions))
+      (length (e .results)) ≡ false
+  advance-lent =
+      rw (
+        records-right,
+        newest-right B o log stored d e m stands sound,
+        versions-right B o log stored d e m stands sound,
+        results-right,
+      )
 
   pub advance-accepted : (w i : ℕ) → machine.PlanningOver B (m .plan) → w < o .workers → i < o .size
       → machine.heldBy (m .execution .work w) ≡ some i
@@ -135,10 +145,7 @@ module _ (B : order.Batch ℕ Outcome) (o : State) (log stored : List ℕ) (d : 
         worker-fits w i there below held,
       ) in
       rw (
-        records-right,
-        newest-right B o log stored d e m stands sound,
-        versions-right B o log stored d e m stands sound,
-        results-right,
+        advance-lent,
         in-range B o log stored d e m stands sound,
         runs B o log stored d e m stands sound over,
         lt-leb (e .state .workers) w (omega (arith, there, stands .fixed .workers-fixed)),

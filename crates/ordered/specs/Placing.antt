@@ -65,6 +65,9 @@ module _ (B : order.Batch ℕ Outcome) (o : State) (log stored : List ℕ) (d : 
   pub versions-right : notOf (length (e .versions)) 256 ≡ false
   versions-right = rw (eq-eqb (length (e .versions)) 256 (stands .plan-is .versions-length))
 
+  pub place-lent : wrongForPlace (e .state) (length (e .newest)) (length (e .versions)) ≡ false
+  place-lent = rw (newest-right, versions-right)
+
   -- planning lasts while some partition has not placed all
   plans-still : (p : ℕ) → p < o .partitions → m .plan .placed p < o .size → notPlanning (e .state) ≡ false
   unfolding notPlanning
@@ -125,8 +128,7 @@ module _ (B : order.Batch ℕ Outcome) (o : State) (log stored : List ℕ) (d : 
       none-holds 4 (meetsWrong (e .state .partitions) p i (meaningAt (e .state) log i) (e .newest))
       (λ j four. rw (meaning-same i) (meets-right p i below there next j four)) in
       rw (
-        newest-right,
-        versions-right,
+        place-lent,
         in-range B o log stored d e m stands sound,
         plans-still p there before,
         lt-leb (e .state .partitions) p (omega (arith, there, stands .fixed .partitions-fixed)),

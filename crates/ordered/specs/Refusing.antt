@@ -29,13 +29,13 @@ use Rattle.ordered.specs.Acting.{advance-makes, holder}
 use Rattle.ordered.specs.Chains.{below-of}
 use Rattle.ordered.specs.Claiming.{planning-over, idle-here, unprocessed-here, claim-makes}
 use Rattle.ordered.specs.Describing.{Describes}
-use Rattle.ordered.specs.Fitting.{records-right, results-right}
-use Rattle.ordered.specs.Placing.{newest-right, versions-right, place-makes}
+use Rattle.ordered.specs.Fitting.{advance-lent}
+use Rattle.ordered.specs.Placing.{place-lent, place-makes}
 use Rattle.ordered.specs.Questions.{OfTheMoment, accepted, from-nine}
 use Rattle.ordered.specs.Ranging.{placed-most, in-range}
 use Rattle.ordered.specs.Relation.{Stands}
 use Rattle.engine.specs.Running.{Engine, Offer, place, claim, advance, seal, Turn, offered}
-use Rattle.ordered.specs.Sealing.{sealedEngine, complete-here, seal-makes}
+use Rattle.ordered.specs.Sealing.{sealedEngine, complete-here, seal-lent, seal-makes}
 use Rattle.ordered.specs.Stepping.{replyTo}
 
 -- a step that is accepted has no refusal number
@@ -76,23 +76,20 @@ module _ (B : order.Batch ℕ Outcome) (o : State) (log stored : List ℕ) (d : 
           → OfTheMoment (answerNumber (offered log e (place p) .answer))
       go true moment-is party party-is all all-is =
           rw (
-            newest-right B o log stored d e m stands sound,
-            versions-right B o log stored d e m stands sound,
+            place-lent B o log stored d e m stands sound,
             in-range B o log stored d e m stands sound,
             moment-is,
           ) (from-nine 9 (omega arith) (omega arith))
       go false moment-is true party-is all all-is =
           rw (
-            newest-right B o log stored d e m stands sound,
-            versions-right B o log stored d e m stands sound,
+            place-lent B o log stored d e m stands sound,
             in-range B o log stored d e m stands sound,
             moment-is,
             party-is,
           ) (from-nine 10 (omega arith) (omega arith))
       go false moment-is false party-is true all-is =
           rw (
-            newest-right B o log stored d e m stands sound,
-            versions-right B o log stored d e m stands sound,
+            place-lent B o log stored d e m stands sound,
             in-range B o log stored d e m stands sound,
             moment-is,
             party-is,
@@ -146,29 +143,20 @@ module _ (B : order.Batch ℕ Outcome) (o : State) (log stored : List ℕ) (d : 
           → OfTheMoment (answerNumber (offered log e (advance w) .answer))
       go true moment-is party party-is idle idle-is =
           rw (
-            records-right B o log stored d e m stands sound,
-            newest-right B o log stored d e m stands sound,
-            versions-right B o log stored d e m stands sound,
-            results-right B o log stored d e m stands sound,
+            advance-lent B o log stored d e m stands sound,
             in-range B o log stored d e m stands sound,
             moment-is,
           ) (from-nine 9 (omega arith) (omega arith))
       go false moment-is true party-is idle idle-is =
           rw (
-            records-right B o log stored d e m stands sound,
-            newest-right B o log stored d e m stands sound,
-            versions-right B o log stored d e m stands sound,
-            results-right B o log stored d e m stands sound,
+            advance-lent B o log stored d e m stands sound,
             in-range B o log stored d e m stands sound,
             moment-is,
             party-is,
           ) (from-nine 10 (omega arith) (omega arith))
       go false moment-is false party-is true idle-is =
           rw (
-            records-right B o log stored d e m stands sound,
-            newest-right B o log stored d e m stands sound,
-            versions-right B o log stored d e m stands sound,
-            results-right B o log stored d e m stands sound,
+            advance-lent B o log stored d e m stands sound,
             in-range B o log stored d e m stands sound,
             moment-is,
             party-is,
@@ -190,9 +178,7 @@ module _ (B : order.Batch ℕ Outcome) (o : State) (log stored : List ℕ) (d : 
       go : (moment : Bool) → notSealable (e .state) ≡ moment → OfTheMoment (answerNumber (offered log e seal .answer))
       go true moment-is =
           rw (
-            records-right B o log stored d e m stands sound,
-            newest-right B o log stored d e m stands sound,
-            versions-right B o log stored d e m stands sound,
+            seal-lent B o log stored d e m stands sound,
             in-range B o log stored d e m stands sound,
             moment-is,
           ) (from-nine 9 (omega arith) (omega arith))

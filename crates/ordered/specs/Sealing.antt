@@ -157,14 +157,20 @@ module _ (B : order.Batch ℕ Outcome) (o : State) (log stored : List ℕ) (d : 
           ∙ ap (lastWrite B r) (all-placed B o log stored d e m stands sound over r)) in
           cases r (m .plan .newest r) last (stands .plan-is .newest-is r below)
 
+  pub seal-lent : wrongForSeal (e .state) (length (e .records)) (length (e .newest)) (length (e .versions)) ≡ false
+  seal-lent =
+      rw (
+        records-right B o log stored d e m stands sound,
+        newest-right B o log stored d e m stands sound,
+        versions-right B o log stored d e m stands sound,
+      )
+
   -- where every transaction is Complete the seal is accepted, and only there
   pub seal-makes : machine.AllComplete B m → offerTo log e store.seal ≡ store.accepted machine.stepped (sealedEngine e)
   unfolding offered sealOf sealVerdict
   seal-makes all =
       rw (
-        records-right B o log stored d e m stands sound,
-        newest-right B o log stored d e m stands sound,
-        versions-right B o log stored d e m stands sound,
+        seal-lent,
         in-range B o log stored d e m stands sound,
         complete-there all,
         newest-sound all,
