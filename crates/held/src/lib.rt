@@ -1,8 +1,10 @@
-// Every meaning that code holds is one of those that the round trips of packed transactions speak of.
+// Every meaning that code holds is one of those that the round trips of packed transactions speak of, and every state one
+// of those that the promise speaks of.
 ghost use mathlib.Core.Path.{_≡_};
-ghost use lib.ListN.{getD};
+ghost use lib.ListN.{length, getD};
 ghost use Rattle.packed.specs.Encode.{fieldsOf};
 ghost use Rattle.packed.specs.Held.{HeldSet, HeldFields, Held};
+use engine::State;
 use packed::Action;
 use packed::ActionRow;
 use packed::Transaction;
@@ -89,5 +91,12 @@ pub fn held(t: Transaction) -> bool
     action_held(actions[1]);
     action_held(actions[2]);
     action_held(actions[3]);
+    true
+}
+
+// The hypothesis `eight` of crates/ordered/specs/Theorem.antt.
+pub fn state_held(state: State) -> bool
+    ensures { λ _. ⌜ length (state .placed) ≡ 8 ⌝ }
+{
     true
 }

@@ -2,9 +2,9 @@
 -- be brought to its end.
 --
 -- The hypotheses: e is any engine, in any state and with any tables, for which the opening of the log's batch is
--- accepted; its state has eight counts of placed transactions, as the type of every state in code has. What follows
--- holds after ANY list of offered steps, refused ones among them, with any numbers in them. Where it is asked that
--- there be N records (`as-many`), that is because the opening is not lent them.
+-- accepted; its state has eight counts of placed transactions, as `held::state_held` proves of every state in code.
+-- What follows holds after ANY list of offered steps, refused ones among them, with any numbers in them. Where it is
+-- asked that there be N records (`as-many`), that is because the opening is not lent them.
 --
 -- It is not vacuous: the listing's batch opens and is sealed (instances/specs/Listing.antt, by computation), and
 -- `progress` brings every batch that opens to its seal.
