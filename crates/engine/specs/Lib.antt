@@ -9,6 +9,7 @@ pub mod LawsAdvance
 pub mod LawsClaim
 pub mod LawsCounting
 pub mod LawsEntries
+pub mod LawsHeld
 pub mod LawsMake
 pub mod LawsOpen
 pub mod LawsPlace

@@ -1,7 +1,7 @@
 // "Claim, worker w, transaction i. After planning. The transaction becomes Executing."
 ghost use mathlib.Core.Path.{_≡_};
 ghost use Prim.Native.Nat.{_<_};
-ghost use Rattle.engine.specs.Claim.{noSuchClaim, afterClaim, claimOf};
+ghost use Rattle.engine.specs.Claim.{noSuchClaim, claimOf};
 ghost use Rattle.engine.specs.Range.{workerAt};
 ghost use Rattle.engine.specs.States.{withRow, withWorker};
 use crate::Row;
@@ -47,16 +47,7 @@ impl State {
         (self.workers as usize <= w) | (self.size as usize <= i)
     }
 
-    fn claimed_by(self, w: usize, i: usize) -> State
-        requires { ⌜ (w < 8) × (i < 64) ⌝ }
-        ensures { λ r. ⌜ r ≡ afterClaim self w i ⌝ }
-    {
-        let row = rows::executing(w as u8);
-        let worker = workers::starting(i as u8);
-        self.with_row(i, row).with_worker(w, worker)
-    }
-
-    pub fn claim(self, w: usize, i: usize) -> Stepped
+    pub fn claim(mut self, w: usize, i: usize) -> Stepped
         ensures { λ r. ⌜ r ≡ claimOf self w i ⌝ }
     {
         if self.is_out_of_range() {
@@ -68,14 +59,18 @@ impl State {
         if self.has_no_such_claim(w, i) {
             return self.refused(Refusal::NoSuchParty, 0);
         }
-        let worker = self.worker_at(w);
+        let worker = self.crew[w];
         if !workers::is_idle(worker) {
             return self.refused(Refusal::WorkerBusyOrIdle, 0);
         }
-        let row = self.row_at(i);
+        let row = self.rows[i];
         if !rows::is_unprocessed(row) {
             return self.refused(Refusal::NotUnprocessed, 0);
         }
-        self.claimed_by(w, i).accepted()
+        let executing = rows::executing(w as u8);
+        let starting = workers::starting(i as u8);
+        self.rows[i] = executing;
+        self.crew[w] = starting;
+        self.accepted()
     }
 }

@@ -1,15 +1,19 @@
 // Refusal 14: "the state has a number out of range".
 ghost use mathlib.Core.Path.{_≡_};
 ghost use mathlib.Core.Bool.{_&&_, _||_, not};
-ghost use Prim.Native.Nat.{_+_, _<_};
+ghost use Prim.Native.Nat.{_+_};
 ghost use lib.Dec.{ltb, leb, eqb};
 ghost use Rattle.terms.specs.Reserved.{noEnd};
 ghost use Rattle.engine.specs.Counting.{someBelow};
-ghost use Rattle.engine.specs.Range.{rowAt, numbersWrong, placedWrong, workerWrong};
-ghost use Rattle.engine.specs.Range.{holds, notHeld, rowWrong, outOfRange};
+ghost use lib.ListN.{getD};
+ghost use Rattle.engine.specs.Range.{numbersWrong, placedWrong, workerWrong, rowWrong, outOfRange};
+ghost use Rattle.engine.specs.LawsHeld.{wrongAmong, heldBy, heldIn, heldOf, notHeldIn, fewOf};
+ghost use Rattle.engine.specs.Rows.{row};
+ghost use Rattle.engine.specs.declared.Progress.the-variants.{Unprocessed};
 use crate::Progress;
 use crate::Row;
 use crate::State;
+use crate::Worker;
 use crate::rows;
 use crate::workers;
 use terms::NO_END;
@@ -46,18 +50,71 @@ fn is_wrong_placed(placed: u8, partition: usize, size: u8, partitions: u8) -> bo
     (size < placed) | ((partitions as usize <= partition) & (placed != 0))
 }
 
-impl State {
-    // The transaction of any number; past the last, an Unprocessed one.
-    pub(crate) fn row_at(self, i: usize) -> Row
-        ensures { λ r. ⌜ r ≡ rowAt self i ⌝ }
-    {
-        if i < 64 {
-            self.rows[i]
-        } else {
-            rows::unprocessed()
-        }
-    }
+// The transaction of any number; past the last, an Unprocessed one.
+fn row_in(rows: [Row; 64], i: usize) -> Row
+    ensures { λ r. ⌜ r ≡ getD rows i (row Unprocessed) ⌝ }
+{
+    if i < 64 { rows[i] } else { rows::unprocessed() }
+}
 
+// "a worker past W not idle; a worker's transaction not below n, or one of its counts above 4; a worker holding a
+// transaction that is not Executing by it"
+fn is_wrong_worker(worker: Worker, w: usize, workers: u8, size: u8, rows: [Row; 64]) -> bool
+    ensures { λ r. ⌜ r ≡ wrongAmong workers size rows w worker ⌝ }
+{
+    if workers::is_idle(worker) {
+        return false;
+    }
+    let transaction = worker.transaction;
+    let row = row_in(rows, workers::index(transaction));
+    (workers as usize <= w)
+        | (size <= transaction)
+        | workers::has_count_above(worker)
+        | !rows::is_executing_by(row, w)
+}
+
+// The transaction that a worker holds; where it is idle 255, which no batch has.
+fn held_by(worker: Worker) -> u8
+    ensures { λ r. ⌜ r ≡ heldBy worker ⌝ }
+{
+    if workers::is_idle(worker) {
+        255
+    } else {
+        worker.transaction
+    }
+}
+
+// There are eight workers, and this one holds the transaction.
+fn is_held(held: [u8; 8], w: u8, i: usize) -> bool
+    ensures { λ r. ⌜ r ≡ heldIn held w i ⌝ }
+{
+    if w < 8 {
+        held[w as usize] as usize == i
+    } else {
+        false
+    }
+}
+
+// "Executing by a worker that does not hold it"
+fn is_not_held(held: [u8; 8], i: usize, row: Row) -> bool
+    ensures { λ r. ⌜ r ≡ notHeldIn held i (row .progress) ⌝ }
+{
+    let progress = row.progress;
+    match progress {
+        Progress::Unprocessed => false,
+        Progress::Executing(w) => !is_held(held, w, i),
+        Progress::Complete(_) => false,
+    }
+}
+
+// The transactions of the batch, and never more than there are.
+fn few(size: u8) -> usize
+    ensures { λ r. ⌜ r ≡ fewOf size ⌝ }
+{
+    if size < 64 { size as usize } else { 64 }
+}
+
+impl State {
     fn has_wrong_placed(self) -> bool
         ensures { λ r. ⌜ r ≡ someBelow 8 (placedWrong self) ⌝ }
     {
@@ -71,64 +128,49 @@ impl State {
         wrong
     }
 
-    fn is_wrong_worker(self, w: usize) -> bool
-        requires { ⌜ w < 8 ⌝ }
-        ensures { λ r. ⌜ r ≡ workerWrong self w ⌝ }
-    {
-        let worker = self.crew[w];
-        let transaction = worker.transaction;
-        let row = self.row_at(workers::index(transaction));
-        !workers::is_idle(worker)
-            & ((self.workers as usize <= w)
-                | (self.size <= transaction)
-                | workers::has_count_above(worker)
-                | !rows::is_executing_by(row, w))
-    }
-
     fn has_wrong_worker(self) -> bool
         ensures { λ r. ⌜ r ≡ someBelow 8 (workerWrong self) ⌝ }
     {
+        let rows = self.rows;
         let mut wrong = false;
         let mut w: usize = 0;
         while w < 8 {
-            wrong = wrong | self.is_wrong_worker(w);
+            let worker = self.crew[w];
+            wrong = wrong | is_wrong_worker(worker, w, self.workers, self.size, rows);
             w += 1;
         }
         wrong
     }
 
-    // There are eight workers, and this one holds the transaction.
-    fn is_held_by(self, w: usize, i: usize) -> bool
-        ensures { λ r. ⌜ r ≡ holds self w i ⌝ }
+    // What each worker holds. The rows are checked against these eight bytes: a state handed on for each row would be
+    // copied for each.
+    fn held(self) -> [u8; 8]
+        ensures { λ r. ⌜ r ≡ heldOf self ⌝ }
     {
-        if w < 8 {
-            let worker = self.crew[w];
-            !workers::is_idle(worker) & (worker.transaction as usize == i)
-        } else {
-            false
-        }
-    }
-
-    // "Executing by a worker that does not hold it"
-    fn is_not_held(self, i: usize, row: Row) -> bool
-        ensures { λ r. ⌜ r ≡ notHeld self i (row .progress) ⌝ }
-    {
-        let progress = row.progress;
-        match progress {
-            Progress::Unprocessed => false,
-            Progress::Executing(w) => !self.is_held_by(w as usize, i),
-            Progress::Complete(_) => false,
-        }
+        let crew = self.crew;
+        [
+            held_by(crew[0]),
+            held_by(crew[1]),
+            held_by(crew[2]),
+            held_by(crew[3]),
+            held_by(crew[4]),
+            held_by(crew[5]),
+            held_by(crew[6]),
+            held_by(crew[7]),
+        ]
     }
 
     fn has_wrong_row(self) -> bool
         ensures { λ r. ⌜ r ≡ someBelow 64 (rowWrong self) ⌝ }
     {
+        let rows = self.rows;
+        let held = self.held();
+        let count = few(self.size);
         let mut wrong = false;
         let mut i: usize = 0;
-        while i < 64 {
-            let row = self.rows[i];
-            wrong = wrong | ((i < self.size as usize) & self.is_not_held(i, row));
+        while i < count {
+            let row = rows[i];
+            wrong = wrong | is_not_held(held, i, row);
             i += 1;
         }
         wrong

@@ -1,5 +1,5 @@
-// Every meaning that code holds is one of those that the round trips of packed transactions speak of, and every state one
-// of those that the promise speaks of.
+// Every meaning that code holds is one of those that the round trips of packed transactions speak of, and every state
+// one of those that the promise speaks of.
 ghost use mathlib.Core.Path.{_≡_};
 ghost use lib.ListN.{length, getD};
 ghost use Rattle.packed.specs.Encode.{fieldsOf};

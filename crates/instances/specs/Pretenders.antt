@@ -193,7 +193,8 @@ abbrev pub AllMeet : List ℕ → List Offer → Engine → List Turn → Type 0
 AllMeet bytes [] c [] = Unit {0}
 AllMeet bytes [] c (reply ∷ replies) = ⊥
 AllMeet bytes (step ∷ steps) c [] = ⊥
-AllMeet bytes (step ∷ steps) c (reply ∷ replies) = Meets bytes step c reply × AllMeet bytes steps (reply .engine) replies
+AllMeet bytes (step ∷ steps) c (reply ∷ replies) = Meets bytes step c reply × AllMeet bytes steps (reply .engine)
+    replies
 
 abbrev built : Stepped → List ℕ → List ℕ → List Version → List ℕ → Turn
 built stepped records newest versions results =
@@ -210,7 +211,8 @@ built stepped records newest versions results =
     }
 
 built-same : {a b : Stepped} {records other-records newest other-newest : List ℕ}
-    {versions other-versions : List Version} {results other-results : List ℕ} → a ≡ b → records ≡ other-records → newest ≡ other-newest
+    {versions other-versions : List Version} {results other-results : List ℕ} → a ≡ b → records ≡ other-records
+    → newest ≡ other-newest
     → versions ≡ other-versions → results ≡ other-results
     → built a records newest versions results ≡ built b other-records other-newest other-versions other-results
 built-same stepped records newest versions results = cc
