@@ -287,6 +287,8 @@ if __name__ == '__main__':
     module = sys.argv[2] if len(sys.argv) > 2 else spec['HERE']
     here = [c for c in spec['CALLEES'] if c['made'] == module]
     print(uses['CALLS'] + '\n' + spec['USES'])
+    if any(c.get('requires') for c in here):
+        print('use denote.Triple.Walked.{says}')
     print('\n'.join('use %s as %s' % (c['path'][0], c['fn']) for c in here) + '\n')
     for c in here:
         print(gen(c))

@@ -6,12 +6,17 @@
 # tools/wrap.py and `rt fmt`. SPEC as for tools/callee.py, with FUNCS:
 #   FUNCS    FN -> dict(mir='versions::step::fill', path='step.fill', crate, params, ret, facts (as of a callee),
 #            calls=[alias of each call, in order], exit=[proof of each fact] where it is not `refl`, uses=[lines])
+#   exits    a list such as `exit` for each return, in the code's order, where branches return: what the tests told is
+#            on or off, at the second test on2 or off2, and so on
 #   forget   {number of a call: [locals that are not used after it]}: a large value that is kept costs at every step
 #   CALLEES' entries have path=(module of the function, name of `code.calls-..`) and made=module of the facts
 #   loop     dict(index=local, count=what the index stays below, fits=that this is below 2^64,
 #            slices={param: (its list at turn {i}, that it is as long as at first, that a turn leads to the next)},
 #            locals={local: what it holds at turn {i}}); or free=param: the one slice that a turn changes, and that
 #            nothing is said of
+#            A length None, and a param among the locals: that the slice is as long and the value proper is handed on
+#            from turn to turn. open=[('local', number) or ('slice', param)..]: nothing is said of these either, and a
+#            turn hands on what they hold
 #            A function with no `ensures` has facts=[], and among its `uses` the step `silent` at its exit
 # A branch `if c { .. return ..; }` may stand in the line. A local array `[x; n]`, written whole, may be lent.
 # The contract is to be the composition of the callees' definitions. Names of params: not a, at, i, n, C, from, and none
@@ -87,7 +92,15 @@ sliceT = lambda p: 'tt, (tt, (record { fits = %s }, tt))' % ('lit< tt' if p in A
 spot = lambda p: '%s 0 %s' % ARRAYS[p] if p in ARRAYS else 'b-%s o-%s m-%s' % (p, p, p)
 AT = 'i .0'
 FREE = (loop or {}).get('free')
-NEXT = 'next less %s refl' % FREE if FREE else 'next less'
+# what a turn hands on besides the number of turns: that a local's value is proper, and how long a slice's list is
+CARRIED = [('local', k) for k in (loop or {}).get('locals', {}) if k <= len(ps)] + [
+    ('slice', p) for p, v in (loop or {}).get('slices', {}).items() if v[1] is None]
+# with open=[(kind, which)..] nothing is said of these, and a turn hands on what they hold too
+OPEN = (loop or {}).get('open', [])
+CARRIED += OPEN
+FITS = 'fits-next less' if CARRIED else 'fits (next less %s refl)' % FREE if FREE else 'fits (next less)'
+carried = lambda j: 'i .1 .1' + ' .1' * (len(OPEN) + j) + (' .0' if j < len(CARRIED) - 1 else '')
+holding = lambda j: '(i .1 .1' + ' .1' * j + ' .0)'
 
 
 def valT(t, term, g):
@@ -115,6 +128,8 @@ class Walk:
         s.full = set(s.env)
         s.within = False
         s.arrays = {}
+        s.tests = 0
+        s.returns = 0
 
     def pos(s, k):
         return s.x.l.index('L%d' % k)
@@ -184,8 +199,8 @@ class Walk:
             s.op('%s ! (bin ! %s %s tt) %s' % (put, a, b, s.store(k, '(tt, tt)')))
             s.env[k] = ('val', 'bool', '', 'tt')
         elif r[0] == 'op2':
-            s.op('%s ! (bin ! %s (lit ! tt) (record { fits = fits (%s) })) %s' % (
-                put, s.opd(r[2])[0], NEXT, s.store(k, '(tt, record { fits = fits (%s) })' % NEXT)))
+            s.op('%s ! (bin ! %s (lit ! tt) (record { fits = %s })) %s' % (
+                put, s.opd(r[2])[0], FITS, s.store(k, '(tt, record { fits = %s })' % FITS)))
         else:
             a, d = s.opd(r[1])
             s.op('%s ! (of-opd ! %s) %s' % (put, a, s.store(k, '(tt, tt)' if d is None else valT(*d[1:]))))
@@ -388,12 +403,15 @@ class Walk:
             t.x.out, t.close = [], 0
         arm.within = True
         arm.run(flat(b[2]))
-        other.calls = arm.calls
+        other.calls, other.returns = arm.calls, arm.returns
+        s.tests += 1
+        other.tests = s.tests
+        which = '' if s.tests == 1 else str(s.tests)
         env = '(envOf mir′.locals (%s ∷ []))' % ' ∷ '.join('l-%d' % k for k in range(nloc))
         other.op('skips ! $ exec ! C Λ %s mir′.t-%d (atRet %s Post)' % (env, number, env))
         other.run(rest, number - 1)
-        s.op('first ! $ branches ! %s\n        (λ on.\n        %s%s)\n        (λ off.\n        %s%s)' % (
-            test, arm.text(arm.x.out), ')' * arm.close, other.text(other.x.out), ')' * other.close))
+        s.op('first ! $ branches ! %s\n        (λ on%s.\n        %s%s)\n        (λ off%s.\n        %s%s)' % (
+            test, which, arm.text(arm.x.out), ')' * arm.close, which, other.text(other.x.out), ')' * other.close))
 
     def run(s, stm, past=0):
         for j, b in enumerate(stm):
@@ -403,7 +421,8 @@ class Walk:
             elif h == 'call':
                 s.call(b)
             elif h == 'return':
-                s.ret(F.get('exit') or ['refl'] * len(F['facts']))
+                s.returns += 1
+                s.ret(F['exits'][s.returns - 1] if 'exits' in F else F.get('exit') or ['refl'] * len(F['facts']))
             elif h == 'if':
                 s.choose(b, stm[j + 1:], past + j + 2)
                 return
@@ -429,18 +448,26 @@ class Walk:
         params, given = [], []
         for k in sorted(head_full):
             d = s.env[k]
-            if k == ix or not d or d[0] != 'val' or k <= len(ps):
+            if k == ix or not d or d[0] != 'val' or k <= len(ps) and k not in loop.get('locals', {}):
+                continue
+            if ('local', k) in OPEN:
                 continue
             if k in loop.get('locals', {}):
-                t.env[k] = ('val', d[1], loop['locals'][k].replace('{i}', '(%s)' % AT), 'tt')
+                proper = carried(CARRIED.index(('local', k))) if ('local', k) in CARRIED else 'tt'
+                t.env[k] = ('val', d[1], loop['locals'][k].replace('{i}', '(%s)' % AT), proper)
             elif good(d[1], d[2]):
                 params.append('(g-L%d : %s)' % (k, good(d[1], par(d[2]))))
                 given.append(par(d[3]))
                 t.env[k] = ('val', d[1], d[2], 'g-L%d' % k)
+        for j, (kind, k) in enumerate(OPEN):
+            if kind == 'local':
+                t.env[k] = ('val', s.env[k][1], holding(j), carried(j))
+            else:
+                t.cur[k], t.leng[k] = holding(j), carried(j)
         t.env[ix] = ('val', 'usize', '(%s)' % AT, 'fits i')
         for p, (term, long, _) in loop.get('slices', {}).items():
             t.cur[p] = term.replace('{i}', '(%s)' % AT)
-            t.leng[p] = long.replace('{i}', '(%s)' % AT)
+            t.leng[p] = carried(CARRIED.index(('slice', p))) if long is None else long.replace('{i}', '(%s)' % AT)
         if FREE:
             t.cur[FREE], t.leng[FREE] = 'i .1 .1 .0', 'i .1 .1 .1'
         cells = []
@@ -476,12 +503,25 @@ class Walk:
         for k, term in loop.get('locals', {}).items():
             t.op('rewrite ! %d (λ (k : ℕ). ‵ (fat fullShare (τ %d) l-%d 0 (%s))) (sym (add-one (%s))) refl' % (
                 t.pos(k), k, k, machine(t.env[k][1], '(%s)' % term.replace('{i}', 'k')), AT))
-        there = 'next less %s (%s)' % (par(t.cur[FREE]), t.leng[FREE]) if FREE else NEXT
+        there = 'next less %s (%s)' % (par(t.cur[FREE]), t.leng[FREE]) if FREE else 'next less'
+        types = []
+        for kind, k in OPEN:
+            there += ' %s' % par(t.env[k][2] if kind == 'local' else t.cur[k])
+        for j, (kind, k) in enumerate(OPEN):
+            types.append(good(t.env[k][1], 'v-%d' % j) if kind == 'local' else 'length v-%d ≡ m-%s' % (j, k))
+            there += ' (%s)' % (t.env[k][3] if kind == 'local' else t.leng[k])
+        held = [denot(t.env[k][1]) if kind == 'local' else 'List ' + denot(SL[k][1]) for kind, k in OPEN]
+        for kind, k in [] if OPEN else CARRIED:
+            term = loop['locals'][k] if kind == 'local' else loop['slices'][k][0]
+            has = good(t.env[k][1], '(%s)' % term) if kind == 'local' else 'length (%s) ≡ m-%s' % (term, k)
+            types.append(has)
+            there += ' (subst (λ (k : ℕ). %s) (sym (add-one (%s))) (%s))' % (
+                has.replace('{i}', 'k'), AT, t.env[k][3] if kind == 'local' else t.leng[k])
         t.op('again ! Nearer At i (%s) (add-one-dec n (%s) (ltb→lt (%s) n less))' % (there, AT, AT))
         # the loop is left
         over.calls = t.calls
         over.op('jumps ! $ exec ! C Λ En mir′.t-%d (atRet En Post)' % number)
-        there = 'le-antisymm (i .1) (nltb→le (%s) n over)' % AT
+        there = 'le-antisymm (i .1%s) (nltb→le (%s) n over)' % (' .0' if CARRIED else '', AT)
         inv = dict([(p, v[0]) for p, v in loop.get('slices', {}).items()])
         inv.update({'r': v for v in loop.get('locals', {}).values()})
         ends = ['ap (λ (k : ℕ). %s) (%s) ∙ %s' % (inv[g].replace('{i}', 'k'), there, par(e)) for (g, _), e in zip(
@@ -493,6 +533,15 @@ class Walk:
         kept = '(l : List %s) → length l ≡ m-%s' % (denot(SL[FREE][1]), FREE) if FREE else ''
         upto = '(i : ℕ) × ((i ≤ n) × (%s))' % kept.replace('→', '×').replace('length', '(length').replace(
             FREE, FREE + ')') if FREE else '(i : ℕ) × (i ≤ n)'
+        after = '(i .0 + 1)'
+        if CARRIED:
+            upto = prod([h.replace('{i}', 'i') for h in types])
+            for j in reversed(range(len(OPEN))):
+                upto = '(v-%d : %s) × (%s)' % (j, held[j], upto)
+            upto = '(i : ℕ) × ((i ≤ n) × (%s))' % upto
+            kept = ' → '.join(['(v-%d : %s)' % (j, held[j]) for j in range(len(OPEN))]
+                              + [h.replace('{i}', after) for h in types])
+        names = ' '.join(['v-%d' % j for j in range(len(OPEN))] + ['c-%d' % j for j in range(len(CARRIED))])
         turns_text = '''  abbrev n : ℕ
   n = %s
 
@@ -545,9 +594,19 @@ class Walk:
           next less%s = (i .0 + 1, %s)
 ''' % (loop['count'], upto, ' '.join(params), ls, ' ∷ '.join(ls.split()), ' ∷ '.join(cells), number, t.text(tests),
        test, t.text(t.x.out), ')' * t.close, over.text(over.x.out), ')' * over.close,
-       'j .1 .0' if FREE else 'j .1', par(loop['fits']), kept + ' → ' if FREE else '', ' l e' if FREE else '',
-       '(%s, (l, e))' % up if FREE else up)
+       'j .1 .0' if FREE or CARRIED else 'j .1', par(loop['fits']), kept + ' → ' if kept else '',
+       ' l e' if FREE else ' ' + names if CARRIED else '',
+       '(%s, (l, e))' % up if FREE else '(%s, %s)' % (up, pair(names.split())) if CARRIED else up)
+        if CARRIED:
+            turns_text += '''
+          fits-next : Holds (ltb (i .0) n) → i .0 + 1 < 2 ^ 64
+          fits-next less = lt-of-le-of-lt (%s) %s
+''' % (up, par(loop['fits']))
         first = '(zero-le, (%s, %s))' % (s.cur[FREE], s.leng[FREE]) if FREE else 'zero-le'
+        if CARRIED:
+            first = '(zero-le, %s)' % pair(
+                [s.env[k][2] if kind == 'local' else s.cur[k] for kind, k in OPEN]
+                + [s.env[k][3] if kind == 'local' else s.leng[k] for kind, k in CARRIED])
         s.op('first ! $ blocks ! $ loops ! 𝓣 Nearer Nearer-wf (At %s %s) (turns %s %s) (0, %s)' % (
             ' '.join(given), ls, ' '.join(given), ls, first))
 

@@ -1,0 +1,4 @@
+pub mod Counts
+pub mod Engine
+pub mod Offering
+pub mod Steps

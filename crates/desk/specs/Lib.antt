@@ -1,0 +1,12 @@
+pub mod Counts
+pub mod LawsLines
+pub mod LawsOffer
+pub mod LawsPieces
+pub mod LawsSteps
+pub mod LawsText
+pub mod Lines
+pub mod Offer
+pub mod Program
+pub mod Steps
+pub mod Text
+pub mod Unique
