@@ -13,6 +13,9 @@
 extern "C" {
 #endif
 
+// How long the arrays must be that a run writes.
+enum { UXOLADUN_RESULTS_LENGTH = 256, UXOLADUN_OUTCOMES_LENGTH = 64, UXOLADUN_COUNTS_LENGTH = 4 };
+
 // What may be said of a transaction after a run.
 enum { UXOLADUN_NOT_COMPLETE = 0, UXOLADUN_COMMITTED = 1, UXOLADUN_ABORTED = 2 };
 
@@ -40,14 +43,19 @@ uint32_t uxoladun_check(const uint8_t *entry, size_t length, size_t records, uin
 //   counts          4 numbers: steps offered, steps refused, waits, and whether the batch was sealed
 //
 // Answers 0 if the batch was opened, sealed or not. Otherwise the number that refuses the making or the opening, and
-// then records, results, outcomes and counts keep their contents. Checked in this order: 1 record_count, partitions,
-// workers and first_position; 2 log_length; 3 the positions; 4 to 8 each transaction in turn.
+// then records, results, outcomes and counts keep their contents. Checked in this order: 1 the lengths of results,
+// outcomes and counts, then record_count, partitions, workers and first_position; 2 log_length; 3 the positions; 4 to 8
+// each transaction in turn.
 //
-// The arrays must not overlap. `log` and `steps` may be null if their length is 0.
+// In crates/capi both calls are proved to give what the definitions in its specs/ say, for every input: `uxoladun_run`
+// is Running.antt's `ranOf`. That a sealed batch's records and results are those of the transactions run one by one is
+// proved of it in crates/promised. The proofs take for granted what C does not check: each pointer is to as many
+// elements as the length with it says, aligned, not null even where the length is 0, and no array that is written
+// overlaps another.
 uint32_t uxoladun_run(uint64_t *records, size_t record_count, const uint8_t *log, size_t log_length,
                       const uint8_t *steps, size_t steps_length, size_t partitions, size_t workers,
-                      uint64_t first_position, uint64_t *results /* 256 */, uint8_t *outcomes /* 64 */,
-                      uint64_t *counts /* 4 */);
+                      uint64_t first_position, uint64_t *results, size_t results_length, uint8_t *outcomes,
+                      size_t outcomes_length, uint64_t *counts, size_t counts_length);
 
 #ifdef __cplusplus
 }

@@ -5,25 +5,31 @@
 
 Makes the cases and the lines that they must give (reference/cases_library.py), builds run_cases.c with the library,
 runs it and compares every line.
+
+`rt staticlib capi` writes an archive for x86-64, target/staticlib/libcapi.a. On another machine a LIBRARY is taken for
+such a one: the program is built by x86_64-linux-gnu-gcc and run by qemu-x86_64, without the sanitizers.
 """
 
 import os
+import platform
 import subprocess
 import sys
 import tempfile
 
 HERE = os.path.dirname(os.path.abspath(__file__))
 ROOT = os.path.join(HERE, "..", "..")
-FLAGS = ["-std=c11", "-O1", "-g", "-Wall", "-Wextra", "-Werror", "-fsanitize=address,undefined",
-         "-fno-sanitize-recover=all", "-I", os.path.join(ROOT, "include")]
+FLAGS = ["-std=c11", "-O1", "-g", "-Wall", "-Wextra", "-Werror", "-I", os.path.join(ROOT, "include")]
+SANITIZED = ["-fsanitize=address,undefined", "-fno-sanitize-recover=all"]
 YARDSTICK = [os.path.join(HERE, "yardstick.c"), os.path.join(ROOT, "bench", "engine", "engine.c")]
 
 
-def built(folder, library):
+def built(folder, library, elsewhere):
+    """The words that run the program. With `elsewhere` it is one for x86-64 and the machine is not."""
     program = os.path.join(folder, "run_cases")
-    compiler = os.environ.get("CC", "cc")
-    subprocess.run([compiler, *FLAGS, os.path.join(HERE, "run_cases.c"), *library, "-o", program], check=True)
-    return program
+    compiler = "x86_64-linux-gnu-gcc" if elsewhere else os.environ.get("CC", "cc")
+    flags = FLAGS + (["-static"] if elsewhere else SANITIZED)
+    subprocess.run([compiler, *flags, os.path.join(HERE, "run_cases.c"), *library, "-o", program], check=True)
+    return ["qemu-x86_64", program] if elsewhere else [program]
 
 
 def expected_lines(folder):
@@ -46,11 +52,11 @@ def first_difference(expected, got):
 def main(arguments):
     library = [os.path.abspath(name) for name in arguments] or YARDSTICK
     with tempfile.TemporaryDirectory() as folder:
-        program = built(folder, library)
+        program = built(folder, library, bool(arguments) and platform.machine() != "x86_64")
         cases, expected = expected_lines(folder)
         # A shared library is looked for where it was named.
         places = [os.path.dirname(library[0]), os.environ.get("LD_LIBRARY_PATH", "")]
-        done = subprocess.run([program, cases], stdout=subprocess.PIPE, text=True,
+        done = subprocess.run([*program, cases], stdout=subprocess.PIPE, text=True,
                               env={**os.environ, "LD_LIBRARY_PATH": ":".join(filter(None, places))})
     difference = first_difference(expected, done.stdout.splitlines())
     if difference:

@@ -6,7 +6,8 @@
 #include <stdlib.h>
 #include <string.h>
 
-enum { RESULTS = 256, OUTCOMES = 64, COUNTS = 4, PAST = 2 };
+enum { RESULTS = UXOLADUN_RESULTS_LENGTH, OUTCOMES = UXOLADUN_OUTCOMES_LENGTH, COUNTS = UXOLADUN_COUNTS_LENGTH };
+enum { PAST = 2 };
 static const uint8_t *at, *end;
 
 static void give_up(const char *why) {
@@ -98,10 +99,19 @@ static void run_case(void) {
     uint8_t *log = next_bytes(log_length), *steps = next_bytes(steps_length), outcomes[OUTCOMES + PAST];
     uint64_t *results = patterned(RESULTS), *counts = patterned(COUNTS);
     for (size_t k = 0; k < sizeof outcomes; k++) outcomes[k] = (uint8_t)(100 + k);
-    uint32_t number = uxoladun_run(records, record_count, log, log_length, steps, steps_length, partitions, workers,
-                                   first, results, outcomes, counts);
-    int kept = !memcmp(records, before, record_count * sizeof *records) && keeps_pattern(results, 0, RESULTS)
+    size_t lengths[] = {RESULTS, OUTCOMES, COUNTS};
+    uint32_t number;
+    int kept;
+    // First with each length wrong in turn, by one too few or too many, then as they are.
+    for (int wrong = 5; wrong >= -1; wrong--) {
+        size_t given[] = {lengths[0], lengths[1], lengths[2]};
+        if (wrong >= 0) given[wrong / 2] += wrong % 2 ? 1 : -1;
+        number = uxoladun_run(records, record_count, log, log_length, steps, steps_length, partitions, workers, first,
+                              results, given[0], outcomes, given[1], counts, given[2]);
+        kept = !memcmp(records, before, record_count * sizeof *records) && keeps_pattern(results, 0, RESULTS)
             && keeps_bytes(outcomes, 0, OUTCOMES) && keeps_pattern(counts, 0, COUNTS);
+        if (wrong >= 0 && (number != 1 || !kept)) printf("a wrong length is taken\n");
+    }
     printf("run %" PRIu32 "%s\n", number, number && kept ? " all kept" : "");
     if (!number || !kept) {
         uint64_t wide[OUTCOMES];

@@ -41,10 +41,13 @@ static uint8_t outcome_of(struct row row) {
 
 uint32_t uxoladun_run(uint64_t *records, size_t record_count, const uint8_t *log, size_t log_length,
                       const uint8_t *steps, size_t steps_length, size_t partitions, size_t workers,
-                      uint64_t first_position, uint64_t *results, uint8_t *outcomes, uint64_t *counts) {
+                      uint64_t first_position, uint64_t *results, size_t results_length, uint8_t *outcomes,
+                      size_t outcomes_length, uint64_t *counts, size_t counts_length) {
     struct store store;
     struct bytes batch = {log, log_length};
     struct numbers stored = {records, record_count}, read = {results, SLOTS};
+    if (results_length != UXOLADUN_RESULTS_LENGTH || outcomes_length != UXOLADUN_OUTCOMES_LENGTH
+        || counts_length != UXOLADUN_COUNTS_LENGTH) return 1;
     struct answer answer = make(&store.state, record_count, partitions, workers, first_position);
     if (answer.result == REFUSED) return answer.number;
     answer = open_batch(&store.state, batch, (struct slots){store.newest, record_count},

@@ -1,0 +1,5 @@
+pub mod Desk
+pub mod Engine
+pub mod Opened
+pub mod Tables
+pub mod Versions

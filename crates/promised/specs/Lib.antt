@@ -1,0 +1,3 @@
+pub mod LawsSessions
+pub mod Sessions
+pub mod Theorem
