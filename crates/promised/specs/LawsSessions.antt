@@ -4,7 +4,6 @@ use Prim.Native.Nat.{ℕ, zero, suc}
 use mathlib.Core.Bool.{Bool, true, false, _||_, cond}
 use mathlib.Core.List.{List, [], _∷_, _++_}
 use mathlib.Core.Path.{_≡_, refl, sym, ap, _∙_}
-use Rattle.engine.specs.Answers.{isRefused}
 use Rattle.engine.specs.LawsRefused.{never}
 use Rattle.engine.specs.Running.{Engine, Offer, place, claim, advance, seal, isAccepted}
 use Rattle.engine.specs.Running.{offered, afterAll, isSealing, sealAccepted}

@@ -1,3 +1,9 @@
+pub mod LawsMade
+pub mod LawsProgram
+pub mod LawsRefused
 pub mod LawsSessions
+pub mod LawsTold
+pub mod Program
 pub mod Sessions
 pub mod Theorem
+pub mod Told

@@ -1,47 +1,30 @@
 -- Demand 3 of a batch that is run from C: whatever the steps are, if the run tells that the batch was sealed, then the
--- records and the results are, as whole lists, those of running the log's transactions one by one on the records that
--- were handed in; and so are the outcomes of the state that they are told from.
+-- records, the results and the outcomes are, as whole lists, those of running the log's transactions one by one on the
+-- records that were handed in.
 --
 -- The hypotheses are what the call hands back: its number is 0, and its fourth count is 1. Nothing is asked of the
 -- arguments.
-use Prim.Native.Nat.{ℕ, _<_, _≤_}
+use Prim.Native.Nat.{ℕ, _≤_}
 use mathlib.Core.Bool.{Bool, true, false, _||_, cond}
-use mathlib.Core.List.{List}
+use mathlib.Core.List.{List, map}
 use mathlib.Core.Path.{_≡_, refl, sym, ap, _∙_, subst}
 use native.Mathlib.Omega.{arith}
 use borrow.Author.Tests.{eq-eqb, eqb-true, eqb-false, not-false}
 use lib.Dec.{eqb}
-use lib.ListN.{length, getD, set, replicate, length-set}
-use Rattle.terms.specs.Refusals.{verdictNumber, numberOf}
-use Rattle.terms.specs.declared.refusal.Refusal.{Refusal}
-use Rattle.terms.specs.declared.refusal.Refusal.the-variants.{
-  WrongParameter,
-  WrongLength,
-  PositionsRunOut,
-  Malformed,
-  NoSuchRecord,
-  NotAscending,
-  UndeclaredRead,
-  UndeclaredWrite,
-  WrongMoment,
-  NoSuchParty,
-  PartitionDone,
-  WorkerBusyOrIdle,
-  NotUnprocessed,
-  StateOutOfRange,
-  BrokenTables,
-}
+use lib.ListN.{length, getD, take, replicate}
+use Rattle.terms.specs.Refusals.{verdictNumber}
+use Rattle.terms.specs.declared.refusal.Verdict.{Verdict}
+use Rattle.terms.specs.declared.refusal.Verdict.the-variants.{Accepted as Passed, Refused as Fails}
 use Rattle.versions.specs.Entry.{emptyEntry}
-use Rattle.versions.specs.LawsTable.{set-here}
+use Rattle.versions.specs.declared.Version.{Version}
 use Rattle.engine.specs.Answers.{answerNumber}
 use Rattle.engine.specs.LawsRefused.{never}
-use Rattle.engine.specs.Make.{wrongParameter, madeIf, makeOf}
-use Rattle.engine.specs.Open.{openOf, entriesIn}
-use Rattle.engine.specs.Running.{Engine, isAccepted, opening, sealAccepted}
+use Rattle.engine.specs.Make.{makeOf}
+use Rattle.engine.specs.Open.{openVerdict, openedBy, openOf, entriesIn}
+use Rattle.engine.specs.Running.{Engine, opening}
 use Rattle.engine.specs.States.{unopened}
 use Rattle.engine.specs.Tables.{notOf}
 use Rattle.engine.specs.declared.Answer.{Answer}
-use Rattle.engine.specs.declared.Answer.the-variants.{Accepted, Waits, Refused}
 use Rattle.engine.specs.declared.Made.{Made}
 use Rattle.engine.specs.declared.State.{State}
 use Rattle.desk.specs.Counts.{begun}
@@ -49,36 +32,18 @@ use Rattle.desk.specs.Offer.{Session, sessionOf}
 use Rattle.desk.specs.Steps.{wholeSteps}
 use Rattle.desk.specs.declared.Tally.{Tally}
 use Rattle.counters.specs.OneByOne.{Ran, oneByOne}
-use Rattle.ordered.specs.Promise.{AsOneByOne, meaningsFrom, ranOneByOne, resultsFor}
+use Rattle.ordered.specs.Meanings.{meanings-length}
+use Rattle.ordered.specs.Opening.{opens}
+use Rattle.ordered.specs.Promise.{AsOneByOne, meaningsFrom, ranOneByOne, completeRow, resultsFor}
 use Rattle.ordered.specs.Theorem.{safety}
 use Rattle.capi.specs.Lent.{wrongLent, slotsOf}
-use Rattle.capi.specs.Report.{countsOf, toldCounts, sealedNumber}
+use Rattle.capi.specs.Report.{outcomesOf, countsOf, sealedNumber}
 use Rattle.capi.specs.Running.{Returned, offeredBytes, batchOf, openingNumber, madeRan, keeps, afterMaking, ranOf}
+use Rattle.promised.specs.LawsMade.{positive, accepts, made-fresh, eight-placed, as-many}
 use Rattle.promised.specs.LawsSessions.{all-engine, all-sealed}
+use Rattle.promised.specs.LawsTold.{counts-are, as-many-outcomes, outcomes-read}
 use Rattle.promised.specs.Sessions.{engineOf, offersUpTo}
-
--- the numbers of refusals are not 0
-positive : (refusal : Refusal) → 1 ≤ numberOf refusal
-positive WrongParameter = omega arith
-positive WrongLength = omega arith
-positive PositionsRunOut = omega arith
-positive Malformed = omega arith
-positive NoSuchRecord = omega arith
-positive NotAscending = omega arith
-positive UndeclaredRead = omega arith
-positive UndeclaredWrite = omega arith
-positive WrongMoment = omega arith
-positive NoSuchParty = omega arith
-positive PartitionDone = omega arith
-positive WorkerBusyOrIdle = omega arith
-positive NotUnprocessed = omega arith
-positive StateOutOfRange = omega arith
-positive BrokenTables = omega arith
-
-accepts : (answer : Answer) → answerNumber answer ≡ 0 → isAccepted answer ≡ true
-accepts Accepted none = refl
-accepts (Waits position) none = refl
-accepts (Refused refusal place) none = absurd (omega (arith, none, positive refusal))
+use Rattle.promised.specs.Told.{outcomeNumber}
 
 module _ (s : State) (log steps records results : List ℕ) where
   abbrev start : Engine
@@ -116,47 +81,33 @@ module _ (s : State) (log steps records results : List ℕ) where
       count : ℕ
       count = wholeSteps (length steps) (offeredBytes opened-answer (length steps))
 
-made-fresh : (n p w start : ℕ) → verdictNumber (makeOf n p w start .verdict) ≡ 0
-    → makeOf n p w start .state ≡ unopened n p w start
-unfolding makeOf
-made-fresh n p w start = go (wrongParameter n p w start)
+-- a batch that was opened has at most 64 transactions
+few-entries : (s : State) (log newest results : List ℕ) (versions : List Version)
+    → openingNumber s log newest versions results ≡ 0 → entriesIn log ≤ 64
+unfolding openOf
+few-entries s log newest results versions = go (openVerdict s log (length newest) (length versions) (length results))
+    refl
   where
-    go : (wrong : Bool) → verdictNumber (madeIf wrong n p w start .verdict) ≡ 0
-        → madeIf wrong n p w start .state ≡ unopened n p w start
-    go true none = absurd (omega (arith, none))
-    go false none = refl
+    go : (verdict : Verdict) → openVerdict s log (length newest) (length versions) (length results) ≡ verdict
+        → answerNumber (openedBy verdict s log newest versions results .stepped .answer) ≡ 0 → entriesIn log ≤ 64
+    go Passed is none = opens s log (length newest) (length versions) (length results) is .few-entries
+    go (Fails refusal place) is none = absurd (omega (arith, none, positive refusal))
 
-eight-placed : (n p w start : ℕ) → length (unopened n p w start .placed) ≡ 8
-unfolding unopened
-eight-placed n p w start = refl
+-- the lengths that a run asks for
+each-right : (a b c : Bool) → (a || b || c) ≡ false → (b ≡ false) × (c ≡ false)
+each-right true b c is = never (sym is)
+each-right false true c is = never (sym is)
+each-right false false c is = (refl, is)
 
-as-many : (n p w start : ℕ) → unopened n p w start .records ≡ n
-unfolding unopened
-as-many n p w start = refl
-
-last-right : (a b c : Bool) → (a || b || c) ≡ false → c ≡ false
-last-right true b c is = never (sym is)
-last-right false true c is = never (sym is)
-last-right false false c is = is
+right-length : (size right : ℕ) → notOf size right ≡ false → size ≡ right
+right-length size right is = eqb-true size right (not-false (eqb size right) is)
 
 -- the fourth count tells whether the batch was sealed
 fourth-count : (tally : Tally) (counts : List ℕ) → length counts ≡ 4 → getD (countsOf tally counts) 3 0 ≡ 1
     → tally .sealed ≡ true
-fourth-count tally counts four one = sealed (tally .sealed) (sym (set-here 0 three 3 _ long) ∙ one)
+fourth-count tally counts four one =
+    sealed (tally .sealed) (sym (ap (λ (l : List ℕ). getD l 3 0) (counts-are tally counts four)) ∙ one)
   where
-    three : List ℕ
-    three = set (set (set counts 0 (tally .offered)) 1 (tally .refused)) 2 (tally .waits)
-
-    long : 3 < length three
-    long =
-        omega (
-          arith,
-          four,
-          length-set counts 0 (tally .offered),
-          length-set (set counts 0 (tally .offered)) 1 (tally .refused),
-          length-set (set (set counts 0 (tally .offered)) 1 (tally .refused)) 2 (tally .waits),
-        )
-
     sealed : (is : Bool) → sealedNumber is ≡ 1 → is ≡ true
     sealed true told = refl
     sealed false told = absurd (omega (arith, told))
@@ -172,7 +123,8 @@ module _ (p w first : ℕ) (log steps records results outcomes counts : List ℕ
 
   ran-made : ranOf p w first log steps records results outcomes counts .number ≡ 0
       → (ranOf p w first log steps records results outcomes counts
-      ≡ madeRan fresh log steps records results outcomes counts) × (length counts ≡ 4)
+      ≡ madeRan fresh log steps records results outcomes counts)
+      × ((length outcomes ≡ 64) × (length counts ≡ 4))
   ran-made = go (wrongLent (length results) (length outcomes) (length counts)) refl
     where
       made : Made
@@ -194,13 +146,15 @@ module _ (p w first : ℕ) (log steps records results outcomes counts : List ℕ
           (afterMaking made log steps records results outcomes counts) .number ≡ 0
           → (cond wrong (keeps 1 records results outcomes counts)
           (afterMaking made log steps records results outcomes counts)
-          ≡ madeRan fresh log steps records results outcomes counts) × (length counts ≡ 4)
+          ≡ madeRan fresh log steps records results outcomes counts)
+          × ((length outcomes ≡ 64) × (length counts ≡ 4))
       go true is none = absurd (omega (arith, none))
-      go false is none = (
-        making (eqb (verdictNumber (made .verdict)) 0) refl none,
-        eqb-true (length counts) 4 (not-false (eqb (length counts) 4)
-            (last-right (notOf (length results) 256) (notOf (length outcomes) 64) (notOf (length counts) 4) is)),
-      )
+      go false is none =
+          let right = each-right (notOf (length results) 256) (notOf (length outcomes) 64) (notOf (length counts) 4) is
+          in (
+            making (eqb (verdictNumber (made .verdict)) 0) refl none,
+            (right-length (length outcomes) 64 (right .0), right-length (length counts) 4 (right .1)),
+          )
 
   module _ (opened : ranOf p w first log steps records results outcomes counts .number ≡ 0)
       (sealed : getD (ranOf p w first log steps records results outcomes counts .counts) 3 0 ≡ 1) where
@@ -219,7 +173,7 @@ module _ (p w first : ℕ) (log steps records results outcomes counts : List ℕ
 
     was-sealed : last fresh log steps records results .tally .sealed ≡ true
     was-sealed =
-        fourth-count (last fresh log steps records results .tally) counts (ran-made opened .1)
+        fourth-count (last fresh log steps records results .tally) counts (ran-made opened .1 .1)
         (sym (ap (λ (l : List ℕ). getD l 3 0) (ap (λ (x : Returned). x .counts) made ∙ told)) ∙ sealed)
 
     -- the engine at the end, its rows' outcomes among it
@@ -243,3 +197,22 @@ module _ (p w first : ℕ) (log steps records results outcomes counts : List ℕ
     results-as-run =
         ap (λ (x : Returned). x .results) made
         ∙ (engine-as-run .reads ∙ ap (λ (r : Ran). resultsFor 64 (r .valuesRead)) same-run)
+
+    told-outcomes : madeRan fresh log steps records results outcomes counts .outcomes
+        ≡ outcomesOf (last fresh log steps records results .tally .state) outcomes
+    told-outcomes =
+        ap (λ (b : Bool).
+        cond b (outcomesOf (last fresh log steps records results .tally .state) outcomes) outcomes)
+        (eq-eqb _ 0 none)
+
+    -- "what became of each transaction": the first n of the caller's outcomes, 1 for committed and 2 for aborted
+    pub outcomes-as-run : take (entriesIn log) (ranOf p w first log steps records results outcomes counts .outcomes)
+        ≡ map outcomeNumber (run .outcomes)
+    outcomes-as-run =
+        ap (λ (l : List ℕ). take (entriesIn log) l) (ap (λ (x : Returned). x .outcomes) made ∙ told-outcomes)
+        ∙ outcomes-read (last fresh log steps records results .tally .state) outcomes (entriesIn log) (run .outcomes)
+        (few-entries fresh log (slotsOf (length records)) results (replicate 256 emptyEntry) none)
+        (ran-made opened .1 .0)
+        (as-many-outcomes (meaningsFrom (length records) log (entriesIn log) 0) records
+        ∙ meanings-length (length records) log (entriesIn log) 0)
+        (engine-as-run .outcomes ∙ ap (λ (r : Ran). map completeRow (r .outcomes)) same-run)
