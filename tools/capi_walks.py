@@ -103,5 +103,5 @@ FUNCS = {
 for f in FUNCS.values():
     f['crate'] = 'capi'
     f['ret'] = 'Ran'
-    f['uses'] = ['Rattle.capi.proofs.Laws.Steps.{use12, big-lit}']
+    f['uses'] = ['Rattle.walks.proofs.Loans.{use12}', 'Rattle.walks.proofs.Plain.{big-lit}']
     f['mir'] = 'capi::' + f['path'].replace('.', '::')

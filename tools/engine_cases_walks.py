@@ -120,5 +120,5 @@ for name in ('one_short', 'exact', 'one_long', 'long'):
     FUNCS[name] = dict(path='tables.' + name, facts=[], params=LENT + KEPT, calls=['empty', 'run-case'])
 for f in FUNCS.values():
     f['crate'] = 'engine_cases'
-    f['uses'] = ['Rattle.engine_cases.proofs.Laws.Steps.{silent, use12, big-lit}']
+    f['uses'] = ['Rattle.walks.proofs.Loans.{use12}', 'Rattle.walks.proofs.Plain.{silent, big-lit}']
     f['mir'] = 'engine_cases::' + f['path'].replace('.', '::')

@@ -77,5 +77,5 @@ FUNCS = {
 for f in FUNCS.values():
     f['crate'] = 'program'
     f['facts'] = []
-    f['uses'] = ['Rattle.program.proofs.Laws.Steps.{silent, use12, big-lit}']
+    f['uses'] = ['Rattle.walks.proofs.Loans.{use12}', 'Rattle.walks.proofs.Plain.{silent, big-lit}']
     f['mir'] = 'program::' + f['path'].replace('.', '::')

@@ -6,3 +6,4 @@ pub mod Value
 pub mod Choice
 pub mod Locals
 pub mod Typed
+pub mod Plain

@@ -145,3 +145,10 @@ module _ {M : Type 1} {𝓤 : URA M} {H : Heap 𝓤} {A : Atoms 𝓤} {K : Type 
       → Step K W (k ∷ Γ) G (i₁ ∷ i₂ ∷ i₃ ∷ i₄ ∷ i₅ ∷ i₆ ∷ i₇ ∷ i₈ ∷ i₉ ∷ i₁₀ ∷ Γ) G
   use10 {i₁} {i₂} {i₃} {i₄} {i₅} {i₆} {i₇} {i₈} {i₉} {i₁₀} k h =
       cut (i₁ ∷ i₂ ∷ i₃ ∷ i₄ ∷ i₅ ∷ i₆ ∷ i₇ ∷ i₈ ∷ i₉ ∷ i₁₀ ∷ []) (k ∷ []) Γ h
+
+  -- the first twelve
+  abbrev pub use12 : {i₁ i₂ i₃ i₄ i₅ i₆ i₇ i₈ i₉ i₁₀ i₁₁ i₁₂ : Item 𝓤} (k : Item 𝓤)
+      → ent 𝓤 (⋆ 𝓤 H A (i₁ ∷ i₂ ∷ i₃ ∷ i₄ ∷ i₅ ∷ i₆ ∷ i₇ ∷ i₈ ∷ i₉ ∷ i₁₀ ∷ i₁₁ ∷ i₁₂ ∷ [])) (mean 𝓤 H A k)
+      → Step K W (k ∷ Γ) G (i₁ ∷ i₂ ∷ i₃ ∷ i₄ ∷ i₅ ∷ i₆ ∷ i₇ ∷ i₈ ∷ i₉ ∷ i₁₀ ∷ i₁₁ ∷ i₁₂ ∷ Γ) G
+  use12 {i₁} {i₂} {i₃} {i₄} {i₅} {i₆} {i₇} {i₈} {i₉} {i₁₀} {i₁₁} {i₁₂} k h =
+      cut (i₁ ∷ i₂ ∷ i₃ ∷ i₄ ∷ i₅ ∷ i₆ ∷ i₇ ∷ i₈ ∷ i₉ ∷ i₁₀ ∷ i₁₁ ∷ i₁₂ ∷ []) (k ∷ []) Γ h

@@ -80,7 +80,8 @@ use Rattle.capi.specs.Running.{ranBy, offeredBytes, afterOpening, batchO
 use Rattle.capi.specs.declared.Ran.{Ran}
 use Rattle.capi.proofs.Ran as N
 use Rattle.capi.proofs.Ran.Laws as N′
-use Rattle.capi.proofs.Laws.Steps.{use12, big-lit}
+use Rattle.walks.proofs.Loans.{use12}
+use Rattle.walks.proofs.Plain.{big-lit}
 use Rattle.versions.proofs.empty.Symbol as empty-def
 use Rattle.versions.proofs.empty.Symbol.{name as #empty}
 use Rattle.versions.proofs.empty.Met as empty-thm

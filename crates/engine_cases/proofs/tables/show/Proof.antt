@@ -78,7 +78,8 @@ use Rattle.engine.proofs.Stepped.Laws as Z′
 use Rattle.engine_cases.specs.declared.calls.Asked.{Asked}
 use Rattle.engine_cases.proofs.calls.Asked as Q
 use Rattle.engine_cases.proofs.calls.Asked.Laws as Q′
-use Rattle.engine_cases.proofs.Laws.Steps.{silent, use12, big-lit}
+use Rattle.walks.proofs.Loans.{use12}
+use Rattle.walks.proofs.Plain.{silent, big-lit}
 use Rattle.engine_cases.proofs.print.begin_versions.Symbol as begin-versions-def
 use Rattle.engine_cases.proofs.print.begin_versions.Symbol.{name as #begin-versions}
 use Rattle.engine_cases.proofs.print.begin_versions.Met as begin-versions-thm

@@ -70,7 +70,8 @@ use Rattle.engine.proofs.Stepped.Laws as Z′
 use Rattle.engine_cases.specs.declared.calls.Asked.{Asked}
 use Rattle.engine_cases.proofs.calls.Asked as Q
 use Rattle.engine_cases.proofs.calls.Asked.Laws as Q′
-use Rattle.engine_cases.proofs.Laws.Steps.{silent, use12, big-lit}
+use Rattle.walks.proofs.Loans.{use12}
+use Rattle.walks.proofs.Plain.{silent, big-lit}
 use Rattle.engine_cases.proofs.tables.plan.Symbol as plan-by-def
 use Rattle.engine_cases.proofs.tables.plan.Symbol.{name as #plan-by}
 use Rattle.engine_cases.proofs.tables.plan.Met as plan-by-thm

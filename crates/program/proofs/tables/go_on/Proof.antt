@@ -67,7 +67,8 @@ use Rattle.desk.specs.Offer.{sessionOf, runOf}
 use Rattle.desk.specs.declared.Tally.{Tally}
 use Rattle.desk.proofs.Tally as C′
 use Rattle.desk.proofs.Tally.Laws as C′′
-use Rattle.program.proofs.Laws.Steps.{silent, use12, big-lit}
+use Rattle.walks.proofs.Loans.{use12}
+use Rattle.walks.proofs.Plain.{silent, big-lit}
 use Rattle.program.proofs.print.is_refused.Symbol as is-refused-def
 use Rattle.program.proofs.print.is_refused.Symbol.{name as #is-refused}
 use Rattle.program.proofs.print.is_refused.Met as is-refused-thm

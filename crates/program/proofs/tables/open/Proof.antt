@@ -65,7 +65,8 @@ use Rattle.desk.specs.Offer.{sessionOf, runOf}
 use Rattle.desk.specs.declared.Tally.{Tally}
 use Rattle.desk.proofs.Tally as C′
 use Rattle.desk.proofs.Tally.Laws as C′′
-use Rattle.program.proofs.Laws.Steps.{silent, use12, big-lit}
+use Rattle.walks.proofs.Loans.{use12}
+use Rattle.walks.proofs.Plain.{silent, big-lit}
 use Rattle.engine.proofs.State.open.Symbol as open-by-def
 use Rattle.engine.proofs.State.open.Symbol.{name as #open-by}
 use Rattle.engine.proofs.State.open.Met as open-by-thm

@@ -74,7 +74,8 @@ use Rattle.desk.specs.Offer.{sessionOf, runOf}
 use Rattle.desk.specs.declared.Tally.{Tally}
 use Rattle.desk.proofs.Tally as C′
 use Rattle.desk.proofs.Tally.Laws as C′′
-use Rattle.program.proofs.Laws.Steps.{silent, use12, big-lit}
+use Rattle.walks.proofs.Loans.{use12}
+use Rattle.walks.proofs.Plain.{silent, big-lit}
 use Rattle.versions.proofs.empty.Symbol as empty-def
 use Rattle.versions.proofs.empty.Symbol.{name as #empty}
 use Rattle.versions.proofs.empty.Met as empty-thm

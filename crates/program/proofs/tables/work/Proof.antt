@@ -75,7 +75,8 @@ use Rattle.desk.specs.Offer.{sessionOf, runOf}
 use Rattle.desk.specs.declared.Tally.{Tally}
 use Rattle.desk.proofs.Tally as C′
 use Rattle.desk.proofs.Tally.Laws as C′′
-use Rattle.program.proofs.Laws.Steps.{silent, use12, big-lit}
+use Rattle.walks.proofs.Loans.{use12}
+use Rattle.walks.proofs.Plain.{silent, big-lit}
 use Rattle.program.proofs.files.read_piece.Symbol as read-piece-def
 use Rattle.program.proofs.files.read_piece.Symbol.{name as #read-piece}
 use Rattle.program.proofs.files.read_piece.Met as read-piece-thm
