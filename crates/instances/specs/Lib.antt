@@ -7,3 +7,4 @@ pub mod Impostors
 pub mod Pretenders
 pub mod Designs
 pub mod Instances
+pub mod Tables
