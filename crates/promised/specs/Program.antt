@@ -1,8 +1,9 @@
 -- The library for C does what the program does. In words: on the numbers of records.bin, the log and the steps, with
 -- two partitions, two workers and the first position 1, as the program has them, a run from C makes the program's run.
--- The program prints the text (`Told.antt`) of what that run hands out: "refused" and the number where it refuses the
--- store or its opening; else each transaction's outcome and values read and the records after it, or "not sealed", and
--- the three counts.
+-- The program's whole output (`outputOf`, desk/specs/Program.antt) is the text (`Told.antt`) of what that run hands out:
+-- "refused" and the number where it refuses the store or its opening; else each transaction's outcome and values read
+-- and the records after it, or "not sealed", and the three counts. That the program's code prints `outputOf` is
+-- compared, not proved.
 --
 -- The hypotheses are the lengths of the arrays that the caller lends, and what these hold before does not matter.
 -- Nothing is asked of the three files: the same bytes, any bytes, are given to both.
@@ -32,7 +33,7 @@ module _ (stored log steps results outcomes counts : List ℕ) (results-lent : l
   abbrev pub handed : Returned
   handed = ranOf 2 2 1 log steps records results outcomes counts
 
-  -- all that the program prints is the text of it
+  -- the program's whole output is the text of it
   pub output-as-handed : outputOf stored log steps ≡ textOf (recordsIn (length stored)) log handed
   unfolding outputOf
   output-as-handed =
