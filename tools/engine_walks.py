@@ -9,7 +9,6 @@ import runpy
 versions = runpy.run_path(os.path.join(os.path.dirname(os.path.abspath(__file__)), 'versions_walks.py'))
 HERE = 'Rattle.engine.proofs.Laws.Calls'
 TYPES = dict(versions['TYPES'])
-del TYPES['Walking']
 TYPES.update({
     'u8': ('num', 'u8', 'w8'),
     'State': ('struct', 'State', 'S', []),

@@ -12,12 +12,17 @@
 #   CALLEES' entries have path=(module of the function, name of `code.calls-..`) and made=module of the facts
 #   loop     dict(index=local, count=what the index stays below, fits=that this is below 2^64,
 #            slices={param: (its list at turn {i}, that it is as long as at first, that a turn leads to the next)},
-#            locals={local: what it holds at turn {i}}); or free=param: the one slice that a turn changes, and that
-#            nothing is said of
+#            locals={local: what it holds at turn {i}}, steps={local: that a turn leads to the next} where that is not
+#            `refl`); or free=param: the one slice that a turn changes, and that nothing is said of
 #            A length None, and a param among the locals: that the slice is as long and the value proper is handed on
 #            from turn to turn. open=[('local', number) or ('slice', param)..]: nothing is said of these either, and a
 #            turn hands on what they hold
 #            A function with no `ensures` has facts=[], and among its `uses` the step `silent` at its exit
+# or, for a loop `while test(..) { .. }` whose turn ends with an assignment:
+#   falls    dict(state={name: local of a number that a turn changes}, locals={local: what it holds, in {name}s},
+#            law=what holds at each turn, first=that it does at first, next=that a turn keeps it, measure=a number,
+#            less=that a turn makes it less, ends=[proof of each fact where the loop is left]). In these {law} is that
+#            the law holds; {on} is that the test came out, {off} that it did not
 # A branch `if c { .. return ..; }` may stand in the line. A local array `[x; n]`, written whole, may be lent.
 # The contract is to be the composition of the callees' definitions. Names of params: not a, at, i, n, C, from, and none
 # of the kit's.
@@ -427,10 +432,120 @@ class Walk:
                 s.choose(b, stm[j + 1:], past + j + 2)
                 return
             elif h == 'block':
-                s.loop(flat(b[1][1]), stm[j + 1:], j + 2)
+                (s.fall if 'falls' in F else s.loop)(flat(b[1][1]), stm[j + 1:], j + 2)
                 return
             else:
                 raise SystemExit('no walk of ' + str(b)[:80])
+
+    def cells(s, full):
+        """what a walk has where a turn begins"""
+        out = []
+        for p, k, e in slices:
+            out.append('‵ (%s %s b-%s o-%s m-%s κ-%s δ-%s %s)' % (
+                'holds' if k == 'mut' else 'sees', row(e), p, p, p, p, p, par(s.cur[p])))
+            out.append('‵ (flft κ-%s q-%s)' % (p, p))
+        for k in reversed(range(nloc)):
+            if k in full:
+                d = s.env[k]
+                v = 'sliceVal (b-%s, o-%s) m-%s' % (d[1], d[1], d[1]) if d[0] == 'slice' else machine(d[1], par(d[2]))
+                out.append('‵ (fat fullShare (τ %d) l-%d 0 (%s))' % (k, k, v))
+            else:
+                out.append('‵ (froom (τ %d) l-%d 0)' % (k, k))
+            out.append('‵ (fdies (τ %d) l-%d)' % (k, k))
+        return out
+
+    def fall(s, turn, rest, number):
+        """a loop that goes on while a test comes out; each turn makes a measure less"""
+        global turns_text
+        D = F['falls']
+        names, kept = list(D['state']), list(D['state'].values()) + list(D['locals'])
+        at = {n: 'i' + ' .1' * j + ' .0' for j, n in enumerate(names)}
+        has = lambda j: 'i' + ' .1' * (len(names) + j) + (' .0' if j < len(kept) else '')
+        put = lambda text, e, **more: re.sub(r'{(\w+)}', lambda m: dict(e, **more)[m.group(1)], text)
+        order = heads + ['L%d%s' % (k, d) for k in reversed(range(nloc)) for d in ('', 'd')]
+        for k in sorted(s.full):
+            if k > len(ps) and k not in kept:
+                s.op('forget ! %d refl' % s.pos(k))
+                s.full.discard(k)
+        s.x.bring(*order)
+        t, head_full = copy.deepcopy(s), set(s.full)
+        t.x.out, t.close = [], 0
+        for j, k in enumerate(kept):
+            term = '(%s)' % at[names[j]] if j < len(names) else put(D['locals'][k], {n: '(%s)' % at[n] for n in at})
+            t.env[k] = ('val', s.env[k][1], term, has(j))
+        cells = t.cells(head_full)
+        here = dict({n: '(%s)' % at[n] for n in names}, law='(%s)' % has(len(kept)))
+        cond = next(j for j, b in enumerate(turn) if isinstance(b, list) and b[0] == 'if')
+        t.run(turn[:cond])
+        tests, closes, t.x.out, t.close = t.x.out, t.close, [], 0
+        over = copy.deepcopy(t)
+        test = t.opd(turn[cond][1])[0]
+        # the turn goes on
+        t.op('skips ! $ exec ! C Λ En (after %d mir′.turn-1) (anyQ (Turned i))' % (cond + 1))
+        t.run(turn[cond + 1:-1])
+        t.assign(turn[-1], last=True)
+        for k in sorted(t.full - head_full):
+            t.op('forget ! %d refl' % t.pos(k))
+        t.x.bring(*order)
+        index = lambda w, law: pair([w.env[k][2] for k in D['state'].values()] + [w.env[k][3] for k in kept] + [law])
+        t.op('again ! Nearer At i %s (%s)' % (index(t, put(D['next'], here, on='less')),
+                                               put(D['less'], here, on='less')))
+        # the loop is left
+        over.calls = t.calls
+        over.op('jumps ! $ exec ! C Λ En mir′.t-%d (atRet En Post)' % number)
+        over.run(rest[:-1])
+        over.ret([put(e, here, off='over') for e in D['ends']])
+        ls = ' '.join('l-%d' % k for k in range(nloc))
+        bare = {n: n for n in names}
+        upto = prod([good(s.env[k][1], names[j] if j < len(names) else '(%s)' % put(D['locals'][k], bare))
+                     for j, k in enumerate(kept)] + [put(D['law'], bare)])
+        for n in reversed(names):
+            upto = '(%s : ℕ) × (%s)' % (n, upto)
+        less = lambda x: put(D['measure'], {n: '(%s)' % at[n].replace('i', x, 1) for n in names})
+        turns_text = '''  -- where the loop stands, and what holds there; a turn makes the measure less
+  abbrev Stands : Type 0
+  Stands = %s
+
+  abbrev Nearer : Stands → Stands → Type 0
+  Nearer j i = %s < %s
+
+  Nearer-wf : WellFounded Nearer
+  Nearer-wf = InvImage·wf (λ (i : Stands). %s) (Nat·lt-wfRel .wf)
+
+  module _ (𝓣 : Tables 𝓤 H) %%s where
+    abbrev C : Calls 𝓤 H
+    C = 𝓣 .C
+
+    abbrev Λ : Loops 𝓤 H
+    Λ = 𝓣 .Λ
+
+    fm : FmC 𝓤 H (W .laws) C
+    fm = fmOf 𝓤 H (W .laws) 𝓣
+
+    module _ (%s : ℕ) where
+      abbrev En : Env 𝓤 H
+      En = envOf mir′.locals (%s ∷ [])
+
+      -- what the walk has there
+      abbrev At : Stands → List (Item 𝓤)
+      At i = %s ∷ []
+
+      abbrev Turned : Stands → Out → SProp 𝓤
+      Turned i = afterTurn 𝓤 H (Below 𝓤 H A Nearer At i)
+          (afterBlock 𝓤 H (afterSeq 𝓤 H (Wp 𝓤 H C Λ En mir′.t-%d (atReturn 𝓤 H En Post)) (atReturn 𝓤 H En Post)))
+
+      turns : (i : Stands) → Sq W (At i) (runs C Λ En mir′.turn-1 (anyQ (Turned i)))
+      unfolding afterTurn
+      turns i =
+        %s $
+        first ! $ branches ! %s
+        (λ less.
+        %s%s)
+        (λ over.
+        %s%s)%s
+''' % (upto, less('j'), less('i'), less('i'), ls, ' ∷ '.join(ls.split()), ' ∷ '.join(cells), number, t.text(tests),
+       test, t.text(t.x.out), ')' * t.close, over.text(over.x.out), ')' * over.close, ')' * closes)
+        s.op('first ! $ blocks ! $ loops ! 𝓣 Nearer Nearer-wf (At %s) (turns %s) %s' % (ls, ls, index(s, D['first'])))
 
     def loop(s, turn, rest, number):
         """the loop, whose turn is a walk of its own; what follows it is walked where the turn leaves it"""
@@ -470,19 +585,7 @@ class Walk:
             t.leng[p] = carried(CARRIED.index(('slice', p))) if long is None else long.replace('{i}', '(%s)' % AT)
         if FREE:
             t.cur[FREE], t.leng[FREE] = 'i .1 .1 .0', 'i .1 .1 .1'
-        cells = []
-        for p, k, e in slices:
-            cells.append('‵ (%s %s b-%s o-%s m-%s κ-%s δ-%s %s)' % (
-                'holds' if k == 'mut' else 'sees', row(e), p, p, p, p, p, par(t.cur[p])))
-            cells.append('‵ (flft κ-%s q-%s)' % (p, p))
-        for k in reversed(range(nloc)):
-            if k in head_full:
-                d = t.env[k]
-                v = 'sliceVal (b-%s, o-%s) m-%s' % (d[1], d[1], d[1]) if d[0] == 'slice' else machine(d[1], par(d[2]))
-                cells.append('‵ (fat fullShare (τ %d) l-%d 0 (%s))' % (k, k, v))
-            else:
-                cells.append('‵ (froom (τ %d) l-%d 0)' % (k, k))
-            cells.append('‵ (fdies (τ %d) l-%d)' % (k, k))
+        cells = t.cells(head_full)
         cond = next(j for j, b in enumerate(turn) if isinstance(b, list) and b[0] == 'if')
         t.run(turn[:cond])
         tests, t.x.out = t.x.out, []
@@ -501,6 +604,10 @@ class Walk:
                  '(sym (add-one (%s)))) refl' % (t.x.l.index('S-' + p), denot(e), row(e), p, p, p, p, p,
                                             step.replace('{i}', '(%s)' % AT), term.replace('{i}', 'k'), AT))
         for k, term in loop.get('locals', {}).items():
+            if k in loop.get('steps', {}):
+                t.op('rewrite ! %d (λ (h : %s). ‵ (fat fullShare (τ %d) l-%d 0 (%s))) (%s) refl' % (
+                    t.pos(k), denot(t.env[k][1]), k, k, machine(t.env[k][1], 'h'),
+                    loop['steps'][k].replace('{i}', '(%s)' % AT)))
             t.op('rewrite ! %d (λ (k : ℕ). ‵ (fat fullShare (τ %d) l-%d 0 (%s))) (sym (add-one (%s))) refl' % (
                 t.pos(k), k, k, machine(t.env[k][1], '(%s)' % term.replace('{i}', 'k')), AT))
         there = 'next less %s (%s)' % (par(t.cur[FREE]), t.leng[FREE]) if FREE else 'next less'
@@ -612,6 +719,7 @@ class Walk:
 
 
 turns_text = ''
+loops = loop or 'falls' in F
 heads = [y for p, _, _ in slices for y in ('S-' + p, 'T-' + p)]
 w = Walk()
 for k in range(nloc):
@@ -646,9 +754,9 @@ o = []
 lib = 'Rattle.%s.proofs.' % F['crate']
 o.append('-- `%s` meets its contract: a walk of its code, made by tools/straight.py. Assumes nothing.' % F['mir'])
 o.append(uses['WALK'])
-if loop:
+if loops:
     o.append(uses['LOOP'])
-if ' branches ! ' in body and not loop:
+if ' branches ! ' in body and not loops:
     o.append(uses['BRANCH'])
 if ARRAYS:
     o.append(uses['OWN'])
@@ -754,7 +862,7 @@ o.append('  exits : %sent 𝓤 (⋆ 𝓤 H A (%s)) (Post (%s))\n  exits %s =\n  
     ' '.join((['h'] if rt else []) + ['z-' + p for p, _ in ms] + names), had, e.text()))
 ks = ' '.join('(k-%s : Triple 𝓤 (𝓣 .C #%s) (%s %s))' % (f, f, CAL[f]['name'], mem) for f in used)
 vs = ' ∷ '.join('sliceVal (b-%s, o-%s) m-%s' % (p, p, p) if ' ' in t else machine(t, p) for p, t in ps) + ' ∷ []'
-if loop:
+if loops:
     o.append(turns_text % ks)
 else:
     o.append('  module _ (𝓣 : Tables 𝓤 H) %s where\n    abbrev C : Calls 𝓤 H\n    C = 𝓣 .C\n\n'

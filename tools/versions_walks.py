@@ -10,29 +10,28 @@ TYPES = {
                                            ('produced', 'bool')]),
     'Link': ('struct', 'Link', 'L', [('slot', 'usize'), ('position', 'u64'), ('previous', 'u16')]),
     'Fill': ('struct', 'Fill', 'F', [('slot', 'usize'), ('contents', 'u64')]),
-    'Walking': ('struct', 'Walking', 'K', [('slot', 'u16'), ('limit', 'usize'), ('at', 'u64'), ('going', 'bool')]),
     'Walked': ('enum', 'Walked', 'E'),
 }
 USES = '''use Rattle.versions.specs.declared.Version.{Version}
 use Rattle.versions.specs.declared.plan.Fill.{Fill}
 use Rattle.versions.specs.declared.plan.Link.{Link}
-use Rattle.versions.specs.declared.chain.Walking.{Walking}
 use Rattle.versions.specs.declared.chain.Walked.{Walked}
 use Rattle.versions.specs.Entry.{emptyEntry, linkedOf, endedOf, filledOf}
 use Rattle.versions.specs.Table.{entryOf, putOf, clearOf, lesserOf}
 use Rattle.versions.specs.Step.{precedingOf, linkOf, fillOf}
-use Rattle.versions.specs.Chain.{walkOf as walkedOf}
-use Rattle.versions.specs.LawsFollow.{startOf, steppedOf, followOf, answerOf}
+use Rattle.versions.specs.Chain.{walkFrom, walkOf as walkedOf}
+use Rattle.versions.specs.LawsFollow.{passesOf, answerOf}
 use Rattle.versions.specs.Seal.{slotOf, soundOn, soundBelow, newestSoundOf, takeOf, collectBelow}
 use Rattle.versions.specs.Seal.{collectOf}
+use Rattle.versions.specs.LawsSeal.{namedOf}
+use Rattle.terms.specs.Reserved.{noSlot}
+use lib.Dec.{eqb}
 use Rattle.versions.proofs.Version as T
 use Rattle.versions.proofs.Version.Laws as T′
 use Rattle.versions.proofs.plan.Link as L
 use Rattle.versions.proofs.plan.Link.Laws as L′
 use Rattle.versions.proofs.plan.Fill as F
 use Rattle.versions.proofs.plan.Fill.Laws as F′
-use Rattle.versions.proofs.chain.Walking as K
-use Rattle.versions.proofs.chain.Walking.Laws as K′
 use Rattle.versions.proofs.chain.Walked as E
 use Rattle.versions.proofs.chain.Walked.Laws as E′'''
 CALLEES = [
@@ -53,13 +52,16 @@ CALLEES = [
          facts=[('versions', 'putOf versions slot version')]),
     dict(fn='preceding', name='Preceding', at='step.preceding', ret='usize',
          params=[('plan', 'Link'), ('size', 'usize')], facts=[('r', 'precedingOf plan size')]),
-    dict(fn='start', name='Start', at='chain.start',
-         params=[('newest', 'u16'), ('bound', 'usize'), ('size', 'usize'), ('position', 'u64')], ret='Walking',
-         facts=[('r', 'startOf newest bound size position')]),
-    dict(fn='follow', name='Follow', at='chain.follow', params=[('versions', 'shr Version'), ('walk', 'Walking')],
-         ret='Walking', facts=[('r', 'followOf versions walk')]),
+    dict(fn='passes', name='Passes', at='chain.passes', ret='bool',
+         params=[('slot', 'u16'), ('limit', 'usize'), ('version', 'Version'), ('position', 'u64')],
+         facts=[('r', 'passesOf slot limit version position')]),
     dict(fn='answer', name='Answer', at='chain.answer', ret='Walked',
-         params=[('walk', 'Walking'), ('version', 'Version')], facts=[('r', 'answerOf walk version')]),
+         params=[('slot', 'u16'), ('limit', 'usize'), ('version', 'Version')],
+         facts=[('r', 'answerOf slot limit version')]),
+    dict(fn='is-no-slot', name='IsNoSlot', at='seal.is_no_slot', params=[('slot', 'u16')], ret='bool',
+         facts=[('r', 'eqb slot noSlot')]),
+    dict(fn='entry-named', name='EntryNamed', at='seal.entry_named', ret='Version',
+         params=[('versions', 'shr Version'), ('slot', 'u16')], facts=[('r', 'namedOf versions slot')]),
     dict(fn='slot-at', name='SlotAt', at='seal.slot_at', params=[('newest', 'shr u16'), ('number', 'usize')], ret='u16',
          facts=[('r', 'slotOf newest number')]),
     dict(fn='sound-on', name='SoundOn', at='seal.sound_on',
@@ -73,6 +75,8 @@ for c in CALLEES:
     c['path'] = ('Rattle.versions.proofs.' + c['at'],
                  'calls-versions·' + c['at'].replace('.', '·').replace('_', '-'))
     c['made'] = HERE + '.' + c['at'].split('.')[0].capitalize()
+    if c['fn'] == 'is-no-slot':
+        c['path'] = ('Rattle.terms.proofs.is_no_slot', 'calls-terms·is-no-slot')
 
 # What the crate offers to walks of other crates: a SPEC there adds these to its CALLEES, with `made` the module of its
 # own facts, and has in its USES the definitions and types that they name, from Rattle.versions.
@@ -110,9 +114,20 @@ FUNCS = {
     'walk': dict(mir='versions::chain::walk', path='chain.walk', ret='Walked',
                  params=[('versions', 'shr Version'), ('newest', 'u16'), ('bound', 'usize'), ('position', 'u64')],
                  facts=[('r', 'walkedOf versions newest bound position')],
-                 exit=['walk-is versions newest bound position'],
-                 uses=['Rattle.versions.proofs.Laws.Chain.{walk-is}'],
-                 calls=['start', 'follow', 'entry-at', 'answer']),
+                 uses=['Rattle.versions.proofs.Laws.Chain.{pass-less, pass-on, pass-end}'],
+                 calls=['lesser', 'entry-at', 'passes', 'entry-at', 'answer'],
+                 falls=dict(state={'slot': 5, 'limit': 6}, locals={7: 'entryOf versions {slot}'},
+                            law='walkFrom versions position (suc {limit}) {limit} {slot}'
+                            ' ≡ walkedOf versions newest bound position',
+                            first='refl', next='pass-on versions position {limit} {slot} {on} ∙ {law}',
+                            measure='{limit}',
+                            less='pass-less {slot} {limit} position (entryOf versions {slot}) {on}',
+                            ends=['pass-end versions position {limit} {slot} {off} ∙ {law}'])),
+    'entry_named': dict(mir='versions::seal::entry_named', path='seal.entry_named', ret='Version',
+                        params=[('versions', 'shr Version'), ('slot', 'u16')], facts=[('r', 'namedOf versions slot')],
+                        calls=['is-no-slot', 'empty', 'entry-at'],
+                        uses=['Rattle.versions.proofs.Laws.Seal.{named-none, named-some}'],
+                        exits=[['named-none versions slot on'], ['named-some versions slot off']]),
     'clear': dict(mir='versions::table::clear', path='table.clear',
                   params=[('versions', 'mut Version'), ('count', 'usize')],
                   facts=[('versions', 'clearOf versions count')],
@@ -125,16 +140,25 @@ FUNCS = {
     'newest_sound': dict(mir='versions::seal::newest_sound', path='seal.newest_sound', ret='bool',
                          params=[('versions', 'shr Version'), ('newest', 'shr u16'), ('bound', 'usize')],
                          facts=[('r', 'newestSoundOf versions newest bound')],
-                         calls=['lesser', 'slot-at', 'entry-at', 'sound-on'],
+                         calls=['lesser', 'slot-at', 'entry-named', 'sound-on'],
+                         uses=['Rattle.versions.proofs.Laws.Seal.{sound-named}'],
                          loop=dict(index=6, count='m-newest', fits='room-newest .0',
-                                   locals={5: 'soundBelow versions newest (lesserOf bound m-versions) {i}'})),
+                                   locals={5: 'soundBelow versions newest (lesserOf bound m-versions) {i}'},
+                                   steps={5: 'sound-named versions (soundBelow versions newest'
+                                          ' (lesserOf bound m-versions) {i}) (slotOf newest {i})'
+                                          ' (lesserOf bound m-versions)'})),
     'collect': dict(mir='versions::seal::collect', path='seal.collect',
                     params=[('versions', 'shr Version'), ('newest', 'shr u16'), ('records', 'mut u64'), ('on', 'bool')],
-                    facts=[('records', 'collectOf versions newest records on')], calls=['slot-at', 'entry-at', 'take'],
-                    uses=['Rattle.versions.specs.LawsSeal.{collect-below-length}'],
-                    loop=dict(index=5, count='m-records', fits='room-records .0',
+                    facts=[('records', 'collectOf versions newest records on')],
+                    exit=['collect-lesser versions newest records on'],
+                    calls=['lesser', 'slot-at', 'entry-named', 'take'],
+                    uses=['Rattle.versions.specs.LawsSeal.{collect-below-length}',
+                          'Rattle.versions.proofs.Laws.Seal.{take-named, collect-lesser}'],
+                    loop=dict(index=6, count='lesserOf m-records m-newest', fits='g-L5',
                               slices={'records': ('collectBelow versions newest records on {i}',
-                                                  'collect-below-length versions newest records on {i}', 'refl')})),
+                                                  'collect-below-length versions newest records on {i}',
+                                                  'take-named versions (collectBelow versions newest records on {i})'
+                                                  ' {i} (slotOf newest {i}) on')})),
 }
 for f in FUNCS.values():
     f['crate'] = 'versions'

@@ -3,4 +3,5 @@ pub mod Calls
 pub mod Chain
 pub mod Clear
 pub mod Lists
+pub mod Seal
 pub mod Tests

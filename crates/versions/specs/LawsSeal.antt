@@ -7,18 +7,24 @@ use native.Mathlib.Nat.{not-suc-le-zero, le-of-suc-le-suc, le-refl, le-trans, le
 use lib.Dec.{T, eqb}
 use lib.ListN.{length, getD, set, length-set}
 use Rattle.terms.specs.Reserved.{noSlot}
+use Rattle.versions.specs.Entry.{emptyEntry}
 use Rattle.versions.specs.LawsTable.{set-here, set-other}
 use Rattle.versions.specs.Seal.{slotOf, slotSound, soundBelow, newestSoundOf, collectBelow, collectOf}
 use Rattle.versions.specs.Table.{entryOf, lesserOf}
 use Rattle.versions.specs.declared.Version.{Version}
 
 -- a number below the next one is the last, or below it
-last-or-below : {P : Type 0} (m n : ℕ) → m < suc n → (m ≡ n → P) → (m < n → P) → P
+pub last-or-below : {P : Type 0} (m n : ℕ) → m < suc n → (m ≡ n → P) → (m < n → P) → P
 last-or-below zero zero l f g = f refl
 last-or-below zero (suc n) l f g = g (suc-le-suc zero-le)
 last-or-below (suc m) zero l f g = absurd (not-suc-le-zero (le-of-suc-le-suc l))
 last-or-below (suc m) (suc n) l f g =
     last-or-below m n (le-of-suc-le-suc l) (λ e. f (ap suc e)) (λ h. g (suc-le-suc h))
+
+-- the entry that a newest slot names, as the code looks for it: where the slot is none it looks for no entry, and the
+-- empty one stands for it
+abbrev pub namedOf : List Version → ℕ → Version
+namedOf versions slot = cond (eqb slot noSlot) emptyEntry (entryOf versions slot)
 
 -- ---- the newest contents taken
 take-length : (t : Bool) (records : List ℕ) (number contents : ℕ)

@@ -1,6 +1,6 @@
 -- How a comparison in the code came out, as an equation of the definition's test.
 use mathlib.Core.Path.{_≡_, refl}
-use mathlib.Core.Bool.{Bool, true, false}
+use mathlib.Core.Bool.{Bool, true, false, _&&_}
 use Prim.Native.Nat.{ℕ, _<_, _≤_}
 use native.Mathlib.Nat.{lt-irrefl, lt-of-lt-of-le}
 use lib.Dec.{T, ltb, leb, lt→ltb, ltb→lt, le→leb, leb→le}
@@ -24,3 +24,7 @@ le-true {m} {n} l = holds (leb m n) (le→leb m n l)
 
 pub le-false : {m n : ℕ} → n < m → leb m n ≡ false
 le-false {m} {n} l = fails (leb m n) (λ t. lt-irrefl n (lt-of-lt-of-le l (leb→le m n t)))
+
+pub and-true : (t : Bool) → (t && true) ≡ t
+and-true true = refl
+and-true false = refl

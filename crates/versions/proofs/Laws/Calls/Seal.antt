@@ -39,28 +39,131 @@ use Rattle.walks.proofs.Loans.{holds, sees}
 use Rattle.versions.specs.declared.Version.{Version}
 use Rattle.versions.specs.declared.plan.Fill.{Fill}
 use Rattle.versions.specs.declared.plan.Link.{Link}
-use Rattle.versions.specs.declared.chain.Walking.{Walking}
 use Rattle.versions.specs.declared.chain.Walked.{Walked}
 use Rattle.versions.specs.Entry.{emptyEntry, linkedOf, endedOf, filledOf}
 use Rattle.versions.specs.Table.{entryOf, putOf, clearOf, lesserOf}
 use Rattle.versions.specs.Step.{precedingOf, linkOf, fillOf}
-use Rattle.versions.specs.Chain.{walkOf as walkedOf}
-use Rattle.versions.specs.LawsFollow.{startOf, steppedOf, followOf, answerOf}
+use Rattle.versions.specs.Chain.{walkFrom, walkOf as walkedOf}
+use Rattle.versions.specs.LawsFollow.{passesOf, answerOf}
 use Rattle.versions.specs.Seal.{slotOf, soundOn, soundBelow, newestSoundOf, takeOf, collectBelow}
 use Rattle.versions.specs.Seal.{collectOf}
+use Rattle.versions.specs.LawsSeal.{namedOf}
+use Rattle.terms.specs.Reserved.{noSlot}
+use lib.Dec.{eqb}
 use Rattle.versions.proofs.Version as T
 use Rattle.versions.proofs.Version.Laws as T′
 use Rattle.versions.proofs.plan.Link as L
 use Rattle.versions.proofs.plan.Link.Laws as L′
 use Rattle.versions.proofs.plan.Fill as F
 use Rattle.versions.proofs.plan.Fill.Laws as F′
-use Rattle.versions.proofs.chain.Walking as K
-use Rattle.versions.proofs.chain.Walking.Laws as K′
 use Rattle.versions.proofs.chain.Walked as E
 use Rattle.versions.proofs.chain.Walked.Laws as E′
+use Rattle.terms.proofs.is_no_slot as is-no-slot
+use Rattle.versions.proofs.seal.entry_named as entry-named
 use Rattle.versions.proofs.seal.slot_at as slot-at
 use Rattle.versions.proofs.seal.sound_on as sound-on
 use Rattle.versions.proofs.seal.take as take
+
+-- ---- `is-no-slot`
+module _ {M : Type 1} (𝓤 : URA M) (H : Heap 𝓤) (A : Atoms 𝓤) (mem : Memory → SProp 𝓤) (run : Routine → Fun 𝓤) where
+  abbrev pub IsNoSlot : Contract 𝓤
+  IsNoSlot = tripleOf 𝓤 H A is-no-slot.signature (is-no-slot.spec 𝓤 H A mem run)
+
+module _ {M : Type 1} (𝓤 : URA M) (H : Heap 𝓤) (A : Atoms 𝓤) (W : Given 𝓤 H A) (mem : Memory
+    → SProp 𝓤) (run : Routine → Fun 𝓤) (slot : ℕ) where
+  abbrev args-is-no-slot : (ℕ × Unit {0})
+  args-is-no-slot = (slot, tt)
+
+  abbrev pub to-is-no-slot : IsNoSlot 𝓤 H A mem run .Ghost
+  to-is-no-slot = ((tt, tt, tt, args-is-no-slot, (vint w16 slot ∷ [], tt)), tt)
+
+  abbrev pub is-no-slot-lent : List (Item 𝓤)
+  is-no-slot-lent = []
+
+  pub is-no-slot-goes : slot < 2 ^ 16 → ent 𝓤 (⋆ 𝓤 H A is-no-slot-lent) (IsNoSlot 𝓤 H A mem run .pre to-is-no-slot)
+  is-no-slot-goes g-slot =
+      qed W is-no-slot-lent ∵ nothing ! $ nothing ! $
+      owned ! u16 (Is u16) (uint-makes 𝓤 H A W w16) slot _ (refl, g-slot) $ fjoin ! $ move ! (1 ∷ 0 ∷ []) $
+      join ! $ nothing ! $ move ! (1 ∷ 0 ∷ []) $ done !
+
+  abbrev pub is-no-slot-said : Val → Unit {0} → Type 0
+  is-no-slot-said u x = u ≡ vbool (eqb slot noSlot)
+
+  abbrev pub is-no-slot-after : Val → Unit {0} → SProp 𝓤
+  is-no-slot-after u x = guard 𝓤 (is-no-slot-said u x) (emp 𝓤)
+
+  pub is-no-slot-gives : (u : Val) → ent 𝓤 (IsNoSlot 𝓤 H A mem run .post to-is-no-slot u)
+      (H .⇛ (ex 𝓤 (is-no-slot-after u)))
+  is-no-slot-gives u =
+      qed W (raw (IsNoSlot 𝓤 H A mem run .post to-is-no-slot u) ∷ []) ∵ updating ! $
+      use1 W (later (some (λ (r : Bool). ((‵ ftrue) ⊛ ‵ (bool .own r (u ∷ []))) ⊛ raw (ensured 𝓤 H A is-no-slot.ended
+      (is-no-slot.clauses 𝓤 H A mem run) tt args-is-no-slot tt r)))) (id⊢ 𝓤 _) $ await ! tt $ pick ! (λ r.
+      split ! $ move ! (1 ∷ []) $
+      use1 W (some (λ (zs : (Unit {0} × Unit {0})). ‵ (lasts is-no-slot.ended tt args-is-no-slot zs) ⊛ raw
+      (fact 𝓤 (r ≡ eqb slot noSlot)))) (id⊢ 𝓤 _) $ pick ! (λ zs.
+      split ! $ move ! (1 ∷ []) $ heard ! (r ≡ eqb slot noSlot) (λ e. fsplit ! $ drop ! $ move ! (1 ∷ []) $ split ! $
+      move ! (1 ∷ []) $ peeks ! bool (Is bool) (shows 𝓤 H A bool) r (u ∷ []) (λ is. drop ! $ at-once ! $
+      show ! (is-no-slot-after u) (tt) $ check ! (ap only is ∙ ap vbool (e)) $ keep ! ([]) $ done !))))
+
+-- ---- `entry-named`
+module _ {M : Type 1} (𝓤 : URA M) (H : Heap 𝓤) (A : Atoms 𝓤) (mem : Memory → SProp 𝓤) (run : Routine → Fun 𝓤) where
+  abbrev pub EntryNamed : Contract 𝓤
+  EntryNamed = tripleOf 𝓤 H A entry-named.signature (entry-named.spec 𝓤 H A mem run)
+
+module _ {M : Type 1} (𝓤 : URA M) (H : Heap 𝓤) (A : Atoms 𝓤) (W : Given 𝓤 H A) (mem : Memory
+    → SProp 𝓤) (run : Routine → Fun 𝓤) (versions : List Version) (slot : ℕ) (b-versions o-versions m-versions : ℕ)
+    (κ-versions : Lft) (q-versions : Share) (δ-versions : GName) where
+  abbrev args-entry-named : (RefT (List Version) × (ℕ × Unit {0}))
+  args-entry-named = (record { ptr = (b-versions, o-versions); name = δ-versions; now = versions }, (slot, tt))
+
+  abbrev pub to-entry-named : EntryNamed 𝓤 H A mem run .Ghost
+  to-entry-named = (
+    (
+      (κ-versions, tt),
+      (q-versions, tt),
+      tt,
+      args-entry-named,
+      (
+        sliceVal (b-versions, o-versions)
+            m-versions ∷ [],
+        (vint w16 slot ∷ [], tt),
+      ),
+    ),
+    tt,
+  )
+
+  abbrev pub entry-named-lent : List (Item 𝓤)
+  entry-named-lent = ‵ (flft κ-versions q-versions) ∷ ‵ (sees T.the-row b-versions o-versions m-versions κ-versions
+      δ-versions versions) ∷ []
+
+  pub entry-named-goes : slot < 2 ^ 16 → ent 𝓤 (⋆ 𝓤 H A entry-named-lent) (EntryNamed 𝓤 H A mem run .pre to-entry-named)
+  entry-named-goes g-slot =
+      qed W entry-named-lent ∵ nothing ! $ move ! (1 ∷ 0 ∷ []) $ join ! $ nothing ! $
+      owned ! u16 (Is u16) (uint-makes 𝓤 H A W w16) slot _ (refl, g-slot) $ fjoin ! $ move ! (2 ∷ 0 ∷ []) $
+      fjoin ! $ move ! (1 ∷ 0 ∷ []) $ join ! $ nothing ! $ move ! (1 ∷ 0 ∷ []) $ done !
+
+  abbrev pub entry-named-said : Val → Unit {0} → Type 0
+  entry-named-said u x = Value.IsValue T.the-type T′.the-laws (namedOf versions slot) u
+
+  abbrev pub entry-named-after : Val → Unit {0} → SProp 𝓤
+  entry-named-after u x = guard 𝓤 (entry-named-said u x) (A .lft κ-versions q-versions)
+
+  pub entry-named-gives : (u : Val) → ent 𝓤 (EntryNamed 𝓤 H A mem run .post to-entry-named u)
+      (H .⇛ (ex 𝓤 (entry-named-after u)))
+  entry-named-gives u =
+      qed W (raw (EntryNamed 𝓤 H A mem run .post to-entry-named u) ∷ []) ∵ updating ! $
+      use1 W (later (some (λ (r : Version). ((‵ (flft κ-versions q-versions) ⊛ ‵ ftrue) ⊛ ‵ (T.the-row .own r
+      (u ∷ []))) ⊛ raw (ensured 𝓤 H A entry-named.ended (entry-named.clauses 𝓤 H A mem run) (κ-versions, tt)
+      args-entry-named tt r)))) (id⊢ 𝓤 _) $ await ! tt $ pick ! (λ r.
+      split ! $ move ! (1 ∷ []) $
+      use1 W (some (λ (zs : (Unit {0} × (Unit {0} × Unit {0}))). ‵ (lasts entry-named.ended (κ-versions, tt)
+      args-entry-named zs) ⊛ raw (fact 𝓤 (r ≡ namedOf versions slot)))) (id⊢ 𝓤 _) $ pick ! (λ zs.
+      split ! $ move ! (1 ∷ []) $ heard ! (r ≡ namedOf versions slot) (λ e. fsplit ! $ drop ! $ fsplit ! $ drop ! $
+      move ! (1 ∷ []) $ split ! $ move ! (1 ∷ []) $
+      peeks ! T.the-row (Is T.the-row) (shows 𝓤 H A T.the-row) r (u ∷ []) (λ is. drop ! $ split ! $
+      move ! (1 ∷ []) $ at-once ! $ show ! (entry-named-after u) (tt) $
+      check ! (Value.is-value T.the-type T′.the-laws r (namedOf versions slot) u (e) is) $ keep ! (1 ∷ []) $
+      done !))))
 
 -- ---- `slot-at`
 module _ {M : Type 1} (𝓤 : URA M) (H : Heap 𝓤) (A : Atoms 𝓤) (mem : Memory → SProp 𝓤) (run : Routine → Fun 𝓤) where

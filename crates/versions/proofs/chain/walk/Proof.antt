@@ -49,42 +49,52 @@ use Rattle.walks.proofs.Locals.{tyAt, envOf, after}
 use Rattle.walks.proofs.Typed.{num-typed, bool-typed, unit-typed, wider-w8, wider-w16, wider-w32}
 use Rattle.walks.proofs.Value as Value
 use Rattle.walks.proofs.Choice as Choice
-use Rattle.walks.proofs.Loans.{holds, sees, lend-mut, back-mut, lend-shr, back-shr, use4, use6}
+use Rattle.walks.proofs.Loans.{holds, sees, lend-mut, back-mut, lend-shr, back-shr, use4, use6, use8, use10}
+use Prim.Native.Nat.{suc, _+_, _-_, _≤_, zero-le}
+use native.Mathlib.Nat.{le-antisymm, lt-of-le-of-lt}
+use native.Mathlib.Numerals.{add-one, add-one-le, add-one-dec}
+use mathlib.Core.WellFounded.{WellFounded, InvImage·wf}
+use lib.WfN.{Nat·lt-wfRel}
+use lib.Dec.{T as Holds, ltb, ltb→lt, nltb→le}
+use base.Fml.{froom, fdies}
+use prog.Wp.{Out, Env, afterSeq, afterBlock, afterTurn, Wp, atReturn}
+use types.Kit.{Sq, runs, anyQ, atRet}
+use types.Run.{bin, assigns-last, first, blocks, branches, skips, jumps, exec, Below, again, loops}
 use Rattle.versions.specs.declared.Version.{Version}
 use Rattle.versions.specs.declared.plan.Fill.{Fill}
 use Rattle.versions.specs.declared.plan.Link.{Link}
-use Rattle.versions.specs.declared.chain.Walking.{Walking}
 use Rattle.versions.specs.declared.chain.Walked.{Walked}
 use Rattle.versions.specs.Entry.{emptyEntry, linkedOf, endedOf, filledOf}
 use Rattle.versions.specs.Table.{entryOf, putOf, clearOf, lesserOf}
 use Rattle.versions.specs.Step.{precedingOf, linkOf, fillOf}
-use Rattle.versions.specs.Chain.{walkOf as walkedOf}
-use Rattle.versions.specs.LawsFollow.{startOf, steppedOf, followOf, answerOf}
+use Rattle.versions.specs.Chain.{walkFrom, walkOf as walkedOf}
+use Rattle.versions.specs.LawsFollow.{passesOf, answerOf}
 use Rattle.versions.specs.Seal.{slotOf, soundOn, soundBelow, newestSoundOf, takeOf, collectBelow}
 use Rattle.versions.specs.Seal.{collectOf}
+use Rattle.versions.specs.LawsSeal.{namedOf}
+use Rattle.terms.specs.Reserved.{noSlot}
+use lib.Dec.{eqb}
 use Rattle.versions.proofs.Version as T
 use Rattle.versions.proofs.Version.Laws as T′
 use Rattle.versions.proofs.plan.Link as L
 use Rattle.versions.proofs.plan.Link.Laws as L′
 use Rattle.versions.proofs.plan.Fill as F
 use Rattle.versions.proofs.plan.Fill.Laws as F′
-use Rattle.versions.proofs.chain.Walking as K
-use Rattle.versions.proofs.chain.Walking.Laws as K′
 use Rattle.versions.proofs.chain.Walked as E
 use Rattle.versions.proofs.chain.Walked.Laws as E′
-use Rattle.versions.proofs.Laws.Chain.{walk-is}
-use Rattle.versions.proofs.chain.start.Symbol as start-def
-use Rattle.versions.proofs.chain.start.Symbol.{name as #start}
-use Rattle.versions.proofs.chain.start.Met as start-thm
-use Rattle.versions.proofs.Laws.Calls.Chain.{Start, to-start, start-said, start-goes, start-gives}
-use Rattle.versions.proofs.chain.follow.Symbol as follow-def
-use Rattle.versions.proofs.chain.follow.Symbol.{name as #follow}
-use Rattle.versions.proofs.chain.follow.Met as follow-thm
-use Rattle.versions.proofs.Laws.Calls.Chain.{Follow, to-follow, follow-said, follow-goes, follow-gives}
+use Rattle.versions.proofs.Laws.Chain.{pass-less, pass-on, pass-end}
+use Rattle.versions.proofs.table.lesser.Symbol as lesser-def
+use Rattle.versions.proofs.table.lesser.Symbol.{name as #lesser}
+use Rattle.versions.proofs.table.lesser.Met as lesser-thm
+use Rattle.versions.proofs.Laws.Calls.Table.{Lesser, to-lesser, lesser-said, lesser-goes, lesser-gives}
 use Rattle.versions.proofs.table.entry_at.Symbol as entry-at-def
 use Rattle.versions.proofs.table.entry_at.Symbol.{name as #entry-at}
 use Rattle.versions.proofs.table.entry_at.Met as entry-at-thm
 use Rattle.versions.proofs.Laws.Calls.Table.{EntryAt, to-entry-at, entry-at-said, entry-at-goes, entry-at-gives}
+use Rattle.versions.proofs.chain.passes.Symbol as passes-def
+use Rattle.versions.proofs.chain.passes.Symbol.{name as #passes}
+use Rattle.versions.proofs.chain.passes.Met as passes-thm
+use Rattle.versions.proofs.Laws.Calls.Chain.{Passes, to-passes, passes-said, passes-goes, passes-gives}
 use Rattle.versions.proofs.chain.answer.Symbol as answer-def
 use Rattle.versions.proofs.chain.answer.Symbol.{name as #answer}
 use Rattle.versions.proofs.chain.answer.Met as answer-thm
@@ -168,8 +178,20 @@ module _ {M : Type 1} (𝓤 : URA M) (H : Heap 𝓤) (A : Atoms 𝓤) (W : Given
       owned ! u16 (Is u16) (uint-makes 𝓤 H A W w16) newest _ (refl, g-newest) $ fjoin ! $ move ! (1 ∷ 0 ∷ []) $
       fjoin ! $ frame ! $ owned ! E.the-row (Is E.the-row) (EL.makes E.the-type E′.the-plain 𝓤 H A) h _ g-h $ done !
 
-  module _ (𝓣 : Tables 𝓤 H) (k-start : Triple 𝓤 (𝓣 .C #start) (Start 𝓤 H A mem run)) (k-follow : Triple 𝓤
-      (𝓣 .C #follow) (Follow 𝓤 H A mem run)) (k-entry-at : Triple 𝓤 (𝓣 .C #entry-at) (EntryAt 𝓤 H A mem run))
+  -- where the loop stands, and what holds there; a turn makes the measure less
+  abbrev Stands : Type 0
+  Stands = (slot : ℕ) × ((limit : ℕ) × ((slot < 2 ^ 16) × ((limit < 2 ^ 64) × ((Value.Good T.the-type T′.the-laws
+      (entryOf versions slot)) × (walkFrom versions position (suc limit) limit slot ≡ walkedOf versions newest bound
+      position)))))
+
+  abbrev Nearer : Stands → Stands → Type 0
+  Nearer j i = (j .1 .0) < (i .1 .0)
+
+  Nearer-wf : WellFounded Nearer
+  Nearer-wf = InvImage·wf (λ (i : Stands). (i .1 .0)) (Nat·lt-wfRel .wf)
+
+  module _ (𝓣 : Tables 𝓤 H) (k-lesser : Triple 𝓤 (𝓣 .C #lesser) (Lesser 𝓤 H A mem run)) (k-entry-at : Triple 𝓤
+      (𝓣 .C #entry-at) (EntryAt 𝓤 H A mem run)) (k-passes : Triple 𝓤 (𝓣 .C #passes) (Passes 𝓤 H A mem run))
       (k-answer : Triple 𝓤 (𝓣 .C #answer) (Answer 𝓤 H A mem run)) where
     abbrev C : Calls 𝓤 H
     C = 𝓣 .C
@@ -179,6 +201,176 @@ module _ {M : Type 1} (𝓤 : URA M) (H : Heap 𝓤) (A : Atoms 𝓤) (W : Given
 
     fm : FmC 𝓤 H (W .laws) C
     fm = fmOf 𝓤 H (W .laws) 𝓣
+
+    module _ (l-0 l-1 l-2 l-3 l-4 l-5 l-6 l-7 l-8 l-9 l-10 l-11 : ℕ) where
+      abbrev En : Env 𝓤 H
+      En = envOf mir′.locals (l-0 ∷ l-1 ∷ l-2 ∷ l-3 ∷ l-4 ∷ l-5 ∷ l-6 ∷ l-7 ∷ l-8 ∷ l-9 ∷ l-10 ∷ l-11 ∷ [])
+
+      -- what the walk has there
+      abbrev At : Stands → List (Item 𝓤)
+      At i = ‵ (sees T.the-row b-versions o-versions m-versions κ-versions δ-versions versions) ∷ ‵
+          (flft κ-versions q-versions) ∷ ‵ (froom (τ 11) l-11 0) ∷ ‵ (fdies (τ 11) l-11) ∷ ‵ (froom (τ 10) l-10 0)
+          ∷ ‵ (fdies (τ 10) l-10) ∷ ‵ (froom (τ 9) l-9 0) ∷ ‵ (fdies (τ 9) l-9) ∷ ‵ (froom (τ 8) l-8 0) ∷ ‵ (fdies
+          (τ 8) l-8) ∷ ‵ (fat fullShare (τ 7) l-7 0 (Value.mach T.the-type T′.the-laws (entryOf versions (i .0))))
+          ∷ ‵ (fdies (τ 7) l-7) ∷ ‵ (fat fullShare (τ 6) l-6 0 (vint w64 ((i .1 .0)))) ∷ ‵ (fdies (τ 6) l-6) ∷ ‵
+          (fat fullShare (τ 5) l-5 0 (vint w16 ((i .0)))) ∷ ‵ (fdies (τ 5) l-5) ∷ ‵ (fat fullShare (τ 4) l-4 0
+          (vint w64 position)) ∷ ‵ (fdies (τ 4) l-4) ∷ ‵ (fat fullShare (τ 3) l-3 0 (vint w64 bound)) ∷ ‵ (fdies
+          (τ 3) l-3) ∷ ‵ (fat fullShare (τ 2) l-2 0 (vint w16 newest)) ∷ ‵ (fdies (τ 2) l-2) ∷ ‵ (fat fullShare (τ 1)
+          l-1 0 (sliceVal (b-versions, o-versions) m-versions)) ∷ ‵ (fdies (τ 1) l-1) ∷ ‵ (froom (τ 0) l-0 0) ∷ ‵
+          (fdies (τ 0) l-0) ∷ []
+
+      abbrev Turned : Stands → Out → SProp 𝓤
+      Turned i = afterTurn 𝓤 H (Below 𝓤 H A Nearer At i)
+          (afterBlock 𝓤 H (afterSeq 𝓤 H (Wp 𝓤 H C Λ En mir′.t-7 (atReturn 𝓤 H En Post)) (atReturn 𝓤 H En Post)))
+
+      turns : (i : Stands) → Sq W (At i) (runs C Λ En mir′.turn-1 (anyQ (Turned i)))
+      unfolding afterTurn
+      turns i =
+          use0 W (raw (Passes 𝓤 H A mem run .pre (to-passes 𝓤 H A W mem run ((i .0)) ((i .1 .0)) (entryOf versions
+          (i .0)) position))) (passes-goes 𝓤 H A W mem run ((i .0)) ((i .1 .0)) (entryOf versions (i .0)) position
+          (i .1 .1 .0) (i .1 .1 .1 .0) (i .1 .1 .1 .1 .0) g-position) $
+          calls-at ! fm (Passes 𝓤 H A mem run) k-passes (to-passes 𝓤 H A W mem run ((i .0)) ((i .1 .0))
+          (entryOf versions (i .0)) position) (and-then ! (load ! (from ! (stop !)) (look ! 15 refl)) (and-then !
+          (load ! (from ! (stop !)) (look ! 13 refl)) (and-then ! (load ! (from ! (stop !)) (look ! 11 refl))
+          (and-then ! (load ! (from ! (stop !)) (look ! 17 refl)) (no-more !))))) (λ u3.
+          use1 W (later (some (λ (x : Unit {0}). given (passes-said 𝓤 H A W mem run ((i .0)) ((i .1 .0))
+          (entryOf versions (i .0)) position u3 x) (raw (emp 𝓤))))) (passes-gives 𝓤 H A W mem run ((i .0))
+          ((i .1 .0)) (entryOf versions (i .0)) position u3) $ await ! tt $ pick ! (λ x3. learn ! (λ s3.
+          drop ! $
+          land ! (from ! (stop !)) (init ! 4 refl (bool-typed u3 (passesOf ((i .0)) ((i .1 .0)) (entryOf versions
+          (i .0)) position) (s3))) $
+          rewrite ! 4 (λ (z : Val). ‵ (fat fullShare (τ 10) l-10 0 z)) (s3) refl $
+          first ! $ branches ! (load ! (from ! (stop !)) (look ! 4 refl))
+          (λ less.
+          skips ! $ exec ! C Λ En (after 2 mir′.turn-1) (anyQ (Turned i)) $
+          assigns ! (of-opd ! (load ! (from ! (fld ! refl (stop !))) (look-in ! 10 (sub ! 2 refl (whole !))))) (from !
+          (stop !)) (init ! 8 refl (
+            tt,
+            record {
+              fits = LL.owed T.the-type T′.the-laws (entryOf versions (i .0)) _
+                  (i .1 .1 .1 .1 .0) .1 .1 .0 .1;
+            },
+          )) $
+          assigns ! (un ! (load ! (from ! (stop !)) (look ! 8 refl)) (record {
+            fits = wider-w16
+                (LL.owed T.the-type T′.the-laws (entryOf versions (i .0)) _ (i .1 .1 .1 .1 .0) .1 .1 .0 .1);
+          })) (from !
+          (stop !)) (init ! 2 refl (
+            tt,
+            record {
+              fits = wider-w16 (LL.owed T.the-type T′.the-laws (entryOf versions
+                  (i .0)) _ (i .1 .1 .1 .1 .0) .1 .1 .0 .1);
+            },
+          )) $
+          use1 W (‵ (sees T.the-row b-versions o-versions m-versions κ-versions δ-versions versions) ⊛ ‵
+          (sees T.the-row b-versions o-versions m-versions κ-versions δ-versions versions)) (shr-slice-copy 𝓤 H A W
+          (named 0) κ-versions T.the-row .twice (record {
+            ptr = (b-versions, o-versions);
+            name = δ-versions;
+            now
+                = versions;
+          }) (sliceVal (b-versions, o-versions) m-versions ∷ [])) $
+          split ! $
+          move ! (2 ∷ 0 ∷ []) $
+          use2 W (raw (EntryAt 𝓤 H A mem run .pre (to-entry-at 𝓤 H A W mem run versions ((entryOf versions (i .0))
+          .previous) b-versions o-versions m-versions κ-versions q-versions δ-versions)))
+          (entry-at-goes 𝓤 H A W mem run versions ((entryOf versions (i .0)) .previous)
+          b-versions o-versions m-versions κ-versions q-versions δ-versions (wider-w16
+          (LL.owed T.the-type T′.the-laws (entryOf versions (i .0)) _ (i .1 .1 .1 .1 .0) .1 .1 .0 .1))) $
+          calls-at ! fm (EntryAt 𝓤 H A mem run) k-entry-at (to-entry-at 𝓤 H A W mem run versions ((entryOf versions
+          (i .0)) .previous) b-versions o-versions m-versions κ-versions q-versions δ-versions) (and-then ! (load !
+          (from ! (stop !)) (look ! 22 refl)) (and-then ! (load ! (from ! (stop !)) (look ! 2 refl)) (no-more !)))
+          (λ u4.
+          use1 W (later (some (λ (x : Unit {0}). given (entry-at-said 𝓤 H A W mem run versions ((entryOf versions
+          (i .0)) .previous) b-versions o-versions m-versions κ-versions q-versions δ-versions u4 x)
+          (‵ (flft κ-versions q-versions))))) (entry-at-gives 𝓤 H A W mem run versions ((entryOf versions (i .0))
+          .previous) b-versions o-versions m-versions κ-versions q-versions δ-versions u4) $ await ! tt $
+          pick ! (λ x4. learn ! (λ s4.
+          land ! (from ! (stop !)) (store ! 10 refl (Value.typed T.the-type T′.the-laws 𝓤 H A W (entryOf versions
+          ((entryOf versions (i .0)) .previous)) u4 (s4))) $
+          rewrite ! 10 (λ (z : Val). ‵ (fat fullShare (τ 7) l-7 0 z)) (s4 .0) refl $
+          assigns ! (un ! (load ! (from ! (stop !)) (look ! 14 refl)) (record { fits = wider-w16 (i .1 .1 .0) }))
+          (from ! (stop !)) (store ! 12 refl (tt, record { fits = wider-w16 (i .1 .1 .0) })) $
+          assigns-last ! (of-opd ! (load ! (from ! (stop !)) (look ! 8 refl))) (from ! (stop !)) (store ! 14 refl (
+            tt,
+            record {
+              fits = LL.owed T.the-type T′.the-laws (entryOf versions (i .0)) _ (i .1 .1 .1 .1 .0)
+                  .1 .1 .0 .1;
+            },
+          )) $
+          forget ! 8 refl $
+          forget ! 4 refl $
+          forget ! 2 refl $
+          move ! (1 ∷ 0 ∷ 2 ∷ 3 ∷ 4 ∷ 5 ∷ 6 ∷ 7 ∷ 8 ∷ 9 ∷ 10 ∷ 11 ∷ 12 ∷ 13 ∷ 14 ∷ 15 ∷ 16 ∷ 17 ∷ 18 ∷ 19 ∷ 20 ∷ 21
+          ∷ 22 ∷ 23 ∷ 24 ∷ 25 ∷ []) $
+          again ! Nearer At i (
+            (entryOf versions (i .0)) .previous,
+            (
+              (i .0),
+              (
+                LL.owed T.the-type T′.the-laws
+                    (entryOf versions (i .0)) _ (i .1 .1 .1 .1 .0) .1 .1 .0 .1,
+                (
+                  wider-w16 (i .1 .1 .0),
+                  (s4 .1, pass-on versions position (i .1 .0) (i .0) less ∙ (i .1 .1 .1 .1 .1)),
+                ),
+              ),
+            ),
+          ) (pass-less (i .0)
+          (i .1 .0) position (entryOf versions (i .0)) less)))))
+          (λ over.
+          jumps ! $ exec ! C Λ En mir′.t-7 (atRet En Post) $
+          use0 W (raw (Answer 𝓤 H A mem run .pre (to-answer 𝓤 H A W mem run ((i .0)) ((i .1 .0)) (entryOf versions
+          (i .0))))) (answer-goes 𝓤 H A W mem run ((i .0)) ((i .1 .0)) (entryOf versions (i .0)) (i .1 .1 .0)
+          (i .1 .1 .1 .0) (i .1 .1 .1 .1 .0)) $
+          calls-at ! fm (Answer 𝓤 H A mem run) k-answer (to-answer 𝓤 H A W mem run ((i .0)) ((i .1 .0))
+          (entryOf versions (i .0))) (and-then ! (load ! (from ! (stop !)) (look ! 15 refl)) (and-then ! (load !
+          (from ! (stop !)) (look ! 13 refl)) (and-then ! (load ! (from ! (stop !)) (look ! 11 refl))
+          (no-more !)))) (λ u5.
+          use1 W (later (some (λ (x : Unit {0}). given (answer-said 𝓤 H A W mem run ((i .0)) ((i .1 .0))
+          (entryOf versions (i .0)) u5 x) (raw (emp 𝓤))))) (answer-gives 𝓤 H A W mem run ((i .0)) ((i .1 .0))
+          (entryOf versions (i .0)) u5) $ await ! tt $ pick ! (λ x5. learn ! (λ s5.
+          drop ! $
+          land ! (from ! (stop !)) (init ! 24 refl (Choice.typed E.the-type E′.the-laws tt 𝓤 H A W (answerOf ((i .0))
+          ((i .1 .0)) (entryOf versions (i .0))) u5 (s5))) $
+          rewrite ! 24 (λ (z : Val). ‵ (fat fullShare (τ 0) l-0 0 z)) (s5 .0) refl $
+          returns ! (look ! 24 refl) $
+          forget ! 24 refl $
+          forget ! 22 refl $
+          forget ! 20 refl $
+          forget ! 18 refl $
+          forget ! 16 refl $
+          forget ! 14 refl $
+          forget ! 12 refl $
+          forget ! 10 refl $
+          forget ! 4 refl $
+          move ! (24 ∷ 25 ∷ []) $
+          free1 ! $
+          move ! (22 ∷ 23 ∷ []) $
+          free1 ! $
+          move ! (20 ∷ 21 ∷ []) $
+          free1 ! $
+          move ! (18 ∷ 19 ∷ []) $
+          free1 ! $
+          move ! (16 ∷ 17 ∷ []) $
+          free1 ! $
+          move ! (14 ∷ 15 ∷ []) $
+          free1 ! $
+          move ! (12 ∷ 13 ∷ []) $
+          free1 ! $
+          move ! (10 ∷ 11 ∷ []) $
+          free1 ! $
+          move ! (8 ∷ 9 ∷ []) $
+          free1 ! $
+          move ! (6 ∷ 7 ∷ []) $
+          free1 ! $
+          move ! (4 ∷ 5 ∷ []) $
+          free1 ! $
+          move ! (2 ∷ 3 ∷ []) $
+          free1 ! $
+          free0 ! $
+          by ! (exits (answerOf ((i .0)) ((i .1 .0)) (entryOf versions (i .0))) (pass-end versions position (i .1 .0)
+          (i .0) over ∙ (i .1 .1 .1 .1 .1)) (s5 .1)))))))))
 
     walk : ent 𝓤 (onEntry 𝓤 H A own.signature (κ-versions, tt) (q-versions, tt) a at) (WpFn 𝓤 H C Λ code.function
         (sliceVal (b-versions, o-versions) m-versions ∷ vint w16 newest ∷ vint w64 bound ∷ vint w64 position ∷ []) Post)
@@ -196,14 +388,17 @@ module _ {M : Type 1} (𝓤 : URA M) (H : Heap 𝓤) (A : Atoms 𝓤) (W : Given
         alloc1 ! (λ l-6.
         alloc1 ! (λ l-7.
         alloc1 ! (λ l-8.
+        alloc1 ! (λ l-9.
+        alloc1 ! (λ l-10.
+        alloc1 ! (λ l-11.
         alloc0 ! $
         params1 ! $
-        pass1 ! (init ! 14 refl (tt, (tt, (record { fits = room-versions .0 }, tt)))) $
-        pass1 ! (init ! 12 refl (tt, record { fits = g-newest })) $
-        pass1 ! (init ! 10 refl (tt, record { fits = g-bound })) $
-        pass1 ! (init ! 8 refl (tt, record { fits = g-position })) $
+        pass1 ! (init ! 20 refl (tt, (tt, (record { fits = room-versions .0 }, tt)))) $
+        pass1 ! (init ! 18 refl (tt, record { fits = g-newest })) $
+        pass1 ! (init ! 16 refl (tt, record { fits = g-bound })) $
+        pass1 ! (init ! 14 refl (tt, record { fits = g-position })) $
         pass0 ! $
-        move ! (19 ∷ []) $
+        move ! (25 ∷ []) $
         fsplit ! $
         move ! (1 ∷ []) $
         fsplit ! $
@@ -213,27 +408,27 @@ module _ {M : Type 1} (𝓤 : URA M) (H : Heap 𝓤) (A : Atoms 𝓤) (W : Given
         fsplit ! $
         drop ! $
         drop ! $
-        move ! (19 ∷ []) $
+        move ! (25 ∷ []) $
         split ! $
         move ! (1 ∷ []) $
         drop ! $
-        assigns ! (of-opd ! (load ! (from ! (fld ! refl (stop !))) (look-in ! 16 (sub ! 1 refl (whole !))))) (from !
-        (stop !)) (init ! 2 refl (tt, record { fits = room-versions .0 })) $
-        use0 W (raw (Start 𝓤 H A mem run .pre (to-start 𝓤 H A W mem run newest bound m-versions position)))
-        (start-goes 𝓤 H A W mem run newest bound m-versions position g-newest g-bound (room-versions .0)
-        g-position) $
-        calls-at ! fm (Start 𝓤 H A mem run) k-start (to-start 𝓤 H A W mem run newest bound m-versions position)
-        (and-then ! (load ! (from ! (stop !)) (look ! 15 refl)) (and-then ! (load ! (from ! (stop !))
-        (look ! 13 refl)) (and-then ! (load ! (from ! (stop !)) (look ! 3 refl)) (and-then ! (load ! (from !
-        (stop !)) (look ! 11 refl)) (no-more !))))) (λ u1.
-        use1 W (later (some (λ (x : Unit {0}). given
-        (start-said 𝓤 H A W mem run newest bound m-versions position u1 x) (raw (emp 𝓤)))))
-        (start-gives 𝓤 H A W mem run newest bound m-versions position u1) $ await ! tt $
+        assigns ! (of-opd ! (load ! (from ! (stop !)) (look ! 20 refl))) (from ! (stop !)) (init ! 14 refl
+        (tt, record { fits = g-newest })) $
+        assigns ! (of-opd ! (load ! (from ! (fld ! refl (stop !))) (look-in ! 22 (sub ! 1 refl (whole !))))) (from !
+        (stop !)) (init ! 6 refl (tt, record { fits = room-versions .0 })) $
+        use0 W (raw (Lesser 𝓤 H A mem run .pre (to-lesser 𝓤 H A W mem run bound m-versions)))
+        (lesser-goes 𝓤 H A W mem run bound m-versions g-bound (room-versions .0)) $
+        calls-at ! fm (Lesser 𝓤 H A mem run) k-lesser (to-lesser 𝓤 H A W mem run bound m-versions) (and-then !
+        (load ! (from ! (stop !)) (look ! 19 refl)) (and-then ! (load ! (from ! (stop !)) (look ! 7 refl))
+        (no-more !))) (λ u1.
+        use1 W (later (some (λ (x : Unit {0}). given (lesser-said 𝓤 H A W mem run bound m-versions u1 x)
+        (raw (emp 𝓤))))) (lesser-gives 𝓤 H A W mem run bound m-versions u1) $ await ! tt $
         pick ! (λ x1. learn ! (λ s1.
         drop ! $
-        land ! (from ! (stop !)) (init ! 8 refl (Value.typed K.the-type K′.the-laws 𝓤 H A W
-        (startOf newest bound m-versions position) u1 (s1))) $
-        rewrite ! 8 (λ (z : Val). ‵ (fat fullShare (τ 5) l-5 0 z)) (s1 .0) refl $
+        land ! (from ! (stop !)) (init ! 12 refl (num-typed w64 u1 (lesserOf bound m-versions) (s1))) $
+        rewrite ! 12 (λ (z : Val). ‵ (fat fullShare (τ 6) l-6 0 z)) (s1 .0) refl $
+        assigns ! (un ! (load ! (from ! (stop !)) (look ! 14 refl)) (record { fits = wider-w16 (g-newest) })) (from !
+        (stop !)) (store ! 6 refl (tt, record { fits = wider-w16 (g-newest) })) $
         move ! (1 ∷ []) $
         use1 W (‵ (sees T.the-row b-versions o-versions m-versions κ-versions δ-versions versions) ⊛ ‵
         (sees T.the-row b-versions o-versions m-versions κ-versions δ-versions versions)) (shr-slice-copy 𝓤 H A W
@@ -245,136 +440,55 @@ module _ {M : Type 1} (𝓤 : URA M) (H : Heap 𝓤) (A : Atoms 𝓤) (W : Given
         }) (sliceVal (b-versions, o-versions) m-versions ∷ [])) $
         split ! $
         move ! (2 ∷ 0 ∷ []) $
-        use2 W (raw (Follow 𝓤 H A mem run .pre (to-follow 𝓤 H A W mem run versions
-        (startOf newest bound m-versions position) b-versions o-versions m-versions κ-versions q-versions
-        δ-versions))) (follow-goes 𝓤 H A W mem run versions (startOf newest bound m-versions position)
-        b-versions o-versions m-versions κ-versions q-versions δ-versions (s1 .1)) $
-        calls-at ! fm (Follow 𝓤 H A mem run) k-follow (to-follow 𝓤 H A W mem run versions
-        (startOf newest bound m-versions position) b-versions o-versions m-versions κ-versions q-versions
-        δ-versions) (and-then ! (load ! (from ! (stop !)) (look ! 16 refl)) (and-then ! (load ! (from ! (stop !))
-        (look ! 8 refl)) (no-more !))) (λ u2.
-        use1 W (later (some (λ (x : Unit {0}). given (follow-said 𝓤 H A W mem run versions
-        (startOf newest bound m-versions position) b-versions o-versions m-versions κ-versions q-versions
-        δ-versions u2 x) (‵ (flft κ-versions q-versions))))) (follow-gives 𝓤 H A W mem run versions
-        (startOf newest bound m-versions position) b-versions o-versions m-versions κ-versions q-versions
-        δ-versions u2) $ await ! tt $ pick ! (λ x2. learn ! (λ s2.
-        land ! (from ! (stop !)) (init ! 6 refl (Value.typed K.the-type K′.the-laws 𝓤 H A W (followOf versions
-        (startOf newest bound m-versions position)) u2 (s2))) $
-        rewrite ! 6 (λ (z : Val). ‵ (fat fullShare (τ 6) l-6 0 z)) (s2 .0) refl $
-        assigns ! (un ! (load ! (from ! (fld ! refl (stop !))) (look-in ! 6 (sub ! 0 refl (whole !))))
-        (record {
-          fits = wider-w16 (LL.owed K.the-type K′.the-laws (followOf versions
-              (startOf newest bound m-versions position)) _ (s2 .1) .0 .1);
-        })) (from ! (stop !)) (store ! 2 refl (
-          tt,
-          record {
-            fits = wider-w16 (LL.owed K.the-type K′.the-laws (followOf versions
-                (startOf newest bound m-versions position)) _ (s2 .1) .0 .1);
-          },
-        )) $
-        move ! (1 ∷ []) $
-        use1 W (‵ (sees T.the-row b-versions o-versions m-versions κ-versions δ-versions versions) ⊛ ‵
-        (sees T.the-row b-versions o-versions m-versions κ-versions δ-versions versions)) (shr-slice-copy 𝓤 H A W
-        (named 0) κ-versions T.the-row .twice (record {
-          ptr = (b-versions, o-versions);
-          name = δ-versions;
-          now
-              = versions;
-        }) (sliceVal (b-versions, o-versions) m-versions ∷ [])) $
-        split ! $
-        move ! (2 ∷ 0 ∷ []) $
-        use2 W (raw (EntryAt 𝓤 H A mem run .pre (to-entry-at 𝓤 H A W mem run versions ((followOf versions
-        (startOf newest bound m-versions position)) .slot) b-versions o-versions m-versions κ-versions q-versions
-        δ-versions))) (entry-at-goes 𝓤 H A W mem run versions ((followOf versions
-        (startOf newest bound m-versions position)) .slot) b-versions o-versions m-versions κ-versions q-versions
-        δ-versions (wider-w16 (LL.owed K.the-type K′.the-laws (followOf versions
-        (startOf newest bound m-versions position)) _ (s2 .1) .0 .1))) $
-        calls-at ! fm (EntryAt 𝓤 H A mem run) k-entry-at (to-entry-at 𝓤 H A W mem run versions ((followOf versions
-        (startOf newest bound m-versions position)) .slot) b-versions o-versions m-versions κ-versions q-versions
-        δ-versions) (and-then ! (load ! (from ! (stop !)) (look ! 16 refl)) (and-then ! (load ! (from ! (stop !))
-        (look ! 2 refl)) (no-more !))) (λ u3.
-        use1 W (later (some (λ (x : Unit {0}). given (entry-at-said 𝓤 H A W mem run versions ((followOf versions
-        (startOf newest bound m-versions position)) .slot) b-versions o-versions m-versions κ-versions q-versions
-        δ-versions u3 x) (‵ (flft κ-versions q-versions))))) (entry-at-gives 𝓤 H A W mem run versions
-        ((followOf versions (startOf newest bound m-versions position)) .slot)
-        b-versions o-versions m-versions κ-versions q-versions δ-versions u3) $ await ! tt $
-        pick ! (λ x3. learn ! (λ s3.
-        land ! (from ! (stop !)) (init ! 4 refl (Value.typed T.the-type T′.the-laws 𝓤 H A W (entryOf versions
-        ((followOf versions (startOf newest bound m-versions position)) .slot)) u3 (s3))) $
-        rewrite ! 4 (λ (z : Val). ‵ (fat fullShare (τ 7) l-7 0 z)) (s3 .0) refl $
-        use0 W (raw (Answer 𝓤 H A mem run .pre (to-answer 𝓤 H A W mem run (followOf versions
-        (startOf newest bound m-versions position)) (entryOf versions ((followOf versions
-        (startOf newest bound m-versions position)) .slot))))) (answer-goes 𝓤 H A W mem run (followOf versions
-        (startOf newest bound m-versions position)) (entryOf versions ((followOf versions
-        (startOf newest bound m-versions position)) .slot)) (s2 .1) (s3 .1)) $
-        calls-at ! fm (Answer 𝓤 H A mem run) k-answer (to-answer 𝓤 H A W mem run (followOf versions
-        (startOf newest bound m-versions position)) (entryOf versions ((followOf versions
-        (startOf newest bound m-versions position)) .slot))) (and-then ! (load ! (from ! (stop !))
-        (look ! 7 refl)) (and-then ! (load ! (from ! (stop !)) (look ! 5 refl)) (no-more !))) (λ u4.
-        use1 W (later (some (λ (x : Unit {0}). given (answer-said 𝓤 H A W mem run (followOf versions
-        (startOf newest bound m-versions position)) (entryOf versions ((followOf versions
-        (startOf newest bound m-versions position)) .slot)) u4 x) (raw (emp 𝓤))))) (answer-gives 𝓤 H A W mem run
-        (followOf versions (startOf newest bound m-versions position)) (entryOf versions ((followOf versions
-        (startOf newest bound m-versions position)) .slot)) u4) $ await ! tt $ pick ! (λ x4. learn ! (λ s4.
-        drop ! $
-        land ! (from ! (stop !)) (init ! 18 refl (Choice.typed E.the-type E′.the-laws tt 𝓤 H A W (answerOf
-        (followOf versions (startOf newest bound m-versions position)) (entryOf versions ((followOf versions
-        (startOf newest bound m-versions position)) .slot))) u4 (s4))) $
-        rewrite ! 18 (λ (z : Val). ‵ (fat fullShare (τ 0) l-0 0 z)) (s4 .0) refl $
-        returns ! (look ! 18 refl) $
-        forget ! 18 refl $
-        forget ! 16 refl $
-        forget ! 14 refl $
-        forget ! 12 refl $
-        forget ! 10 refl $
-        forget ! 8 refl $
+        use2 W (raw (EntryAt 𝓤 H A mem run .pre (to-entry-at 𝓤 H A W mem run versions newest b-versions o-versions
+        m-versions κ-versions q-versions δ-versions))) (entry-at-goes 𝓤 H A W mem run versions newest b-versions
+        o-versions m-versions κ-versions q-versions δ-versions (wider-w16 (g-newest))) $
+        calls-at ! fm (EntryAt 𝓤 H A mem run) k-entry-at (to-entry-at 𝓤 H A W mem run versions newest b-versions
+        o-versions m-versions κ-versions q-versions δ-versions) (and-then ! (load ! (from ! (stop !))
+        (look ! 22 refl)) (and-then ! (load ! (from ! (stop !)) (look ! 6 refl)) (no-more !))) (λ u2.
+        use1 W (later (some (λ (x : Unit {0}). given
+        (entry-at-said 𝓤 H A W mem run versions newest b-versions o-versions m-versions κ-versions q-versions
+        δ-versions u2 x) (‵ (flft κ-versions q-versions))))) (entry-at-gives 𝓤 H A W mem run versions newest
+        b-versions o-versions m-versions κ-versions q-versions δ-versions u2) $ await ! tt $
+        pick ! (λ x2. learn ! (λ s2.
+        land ! (from ! (stop !)) (init ! 10 refl (Value.typed T.the-type T′.the-laws 𝓤 H A W
+        (entryOf versions newest) u2 (s2))) $
+        rewrite ! 10 (λ (z : Val). ‵ (fat fullShare (τ 7) l-7 0 z)) (s2 .0) refl $
         forget ! 6 refl $
-        forget ! 4 refl $
-        forget ! 2 refl $
-        move ! (18 ∷ 19 ∷ []) $
-        free1 ! $
-        move ! (16 ∷ 17 ∷ []) $
-        free1 ! $
-        move ! (14 ∷ 15 ∷ []) $
-        free1 ! $
-        move ! (12 ∷ 13 ∷ []) $
-        free1 ! $
-        move ! (10 ∷ 11 ∷ []) $
-        free1 ! $
-        move ! (8 ∷ 9 ∷ []) $
-        free1 ! $
-        move ! (6 ∷ 7 ∷ []) $
-        free1 ! $
-        move ! (4 ∷ 5 ∷ []) $
-        free1 ! $
-        move ! (2 ∷ 3 ∷ []) $
-        free1 ! $
-        free0 ! $
-        move ! (1 ∷ 0 ∷ []) $
-        by ! (exits (answerOf (followOf versions (startOf newest bound m-versions position)) (entryOf versions
-        ((followOf versions (startOf newest bound m-versions position)) .slot)))
-        (walk-is versions newest bound position) (s4 .1)))))))))))))))))))))))
+        move ! (1 ∷ 0 ∷ 2 ∷ 3 ∷ 4 ∷ 5 ∷ 6 ∷ 7 ∷ 8 ∷ 9 ∷ 10 ∷ 11 ∷ 12 ∷ 13 ∷ 14 ∷ 15 ∷ 16 ∷ 17 ∷ 18 ∷ 19 ∷ 20 ∷ 21
+        ∷ 22 ∷ 23 ∷ 24 ∷ 25 ∷ []) $
+        first ! $ blocks ! $ loops ! 𝓣 Nearer Nearer-wf (At l-0 l-1 l-2 l-3 l-4 l-5 l-6 l-7 l-8 l-9 l-10 l-11)
+        (turns l-0 l-1 l-2 l-3 l-4 l-5 l-6 l-7 l-8 l-9 l-10 l-11) (
+          newest,
+          (
+            lesserOf bound m-versions,
+            (
+              g-newest,
+              (s1 .1, (s2 .1, refl)),
+            ),
+          ),
+        )))))))))))))))))))
 
 module _ {M : Type 1} (𝓤 : URA M) (H : Heap 𝓤) (A : Atoms 𝓤) (W : Given 𝓤 H A) (mem : Memory
     → SProp 𝓤) (run : Routine → Fun 𝓤) where
-  own-walks : (𝓣 : Tables 𝓤 H) → Triple 𝓤 (𝓣 .C #start) (Start 𝓤 H A mem run)
-      → Triple 𝓤 (𝓣 .C #follow) (Follow 𝓤 H A mem run) → Triple 𝓤 (𝓣 .C #entry-at) (EntryAt 𝓤 H A mem run)
+  own-walks : (𝓣 : Tables 𝓤 H) → Triple 𝓤 (𝓣 .C #lesser) (Lesser 𝓤 H A mem run)
+      → Triple 𝓤 (𝓣 .C #entry-at) (EntryAt 𝓤 H A mem run) → Triple 𝓤 (𝓣 .C #passes) (Passes 𝓤 H A mem run)
       → Triple 𝓤 (𝓣 .C #answer) (Answer 𝓤 H A mem run) → Walks 𝓤 H A own.ended stayed (WpFn 𝓤 H (𝓣 .C) (𝓣 .Λ)
       code.function) (own.clauses 𝓤 H A mem run)
-  own-walks 𝓣 k-start k-follow k-entry-at k-answer =
+  own-walks 𝓣 k-lesser k-entry-at k-passes k-answer =
       walked 𝓤 H A own.ended stayed (own.clauses 𝓤 H A mem run) (WpFn 𝓤 H (𝓣 .C) (𝓣 .Λ) code.function) (λ κs.
       (slice-vals, (uint-vals w16, (uint-vals w64, (uint-vals w64, tt))))) (λ κs.
       (shr-slice-tells (named 0) (κs .0) T.the-row, (uint-tells w16, (uint-tells w64, (uint-tells w64, tt)))))
       (λ κs qs bounds a g are. via 𝓤 _ (fst∗ 𝓤 _ (emp 𝓤)) (walk 𝓤 H A W mem run (κs .0) bounds (qs .0)
       (a .0 .ptr .0) (a .0 .ptr .1) (a .0 .name) (a .0 .now) (a .1 .0) (a .1 .1 .0) (a .1 .1 .1 .0)
-      (are .0 .0 .1) (are .1 .0 .1) (are .1 .1 .0 .1) (are .1 .1 .1 .0 .1) 𝓣 k-start k-follow k-entry-at k-answer))
+      (are .0 .0 .1) (are .1 .0 .1) (are .1 .1 .0 .1) (are .1 .1 .1 .0 .1) 𝓣 k-lesser k-entry-at k-passes k-answer))
 
 own-meets : {M : Type 1} (𝓤 : URA M) (H : Heap 𝓤) (A : Atoms 𝓤) → Given 𝓤 H A → (mem : Memory
-    → SProp 𝓤) (run : Routine → Fun 𝓤) (𝓣 : Tables 𝓤 H) → Triple 𝓤 (𝓣 .C #start) (Start 𝓤 H A mem run)
-    → Triple 𝓤 (𝓣 .C #follow) (Follow 𝓤 H A mem run) → Triple 𝓤 (𝓣 .C #entry-at) (EntryAt 𝓤 H A mem run)
+    → SProp 𝓤) (run : Routine → Fun 𝓤) (𝓣 : Tables 𝓤 H) → Triple 𝓤 (𝓣 .C #lesser) (Lesser 𝓤 H A mem run)
+    → Triple 𝓤 (𝓣 .C #entry-at) (EntryAt 𝓤 H A mem run) → Triple 𝓤 (𝓣 .C #passes) (Passes 𝓤 H A mem run)
     → Triple 𝓤 (𝓣 .C #answer) (Answer 𝓤 H A mem run) → Meets 𝓤 H A own.signature (WpFn 𝓤 H (𝓣 .C) (𝓣 .Λ)
     code.function) (own.spec 𝓤 H A mem run)
-own-meets 𝓤 H A W mem run 𝓣 k-start k-follow k-entry-at k-answer =
+own-meets 𝓤 H A W mem run 𝓣 k-lesser k-entry-at k-passes k-answer =
     walk-meets 𝓤 H A own.ended stayed W (
       goes-none-slice 𝓤 H A W 1 (0 ∷ []) tt (plain (λ _.
           T.the-row)) yes,
@@ -388,7 +502,7 @@ own-meets 𝓤 H A W mem run 𝓣 k-start k-follow k-entry-at k-answer =
       ),
     )
     (own.clauses 𝓤 H A mem run) (WpFn 𝓤 H (𝓣 .C) (𝓣 .Λ) code.function) (WpFn-mono 𝓤 H (W .laws) 𝓣 code.function)
-    (own-walks 𝓤 H A W mem run 𝓣 k-start k-follow k-entry-at k-answer)
+    (own-walks 𝓤 H A W mem run 𝓣 k-lesser k-entry-at k-passes k-answer)
 
 pub walk-spec : {M : Type 1} → stated.statement M
 unfolding code.routine tablesOf
@@ -396,11 +510,11 @@ walk-spec 𝓤 H 𝓜 𝓖 𝓡 =
     entered 𝓤 H (tripleOf 𝓤 H (𝓖 .A) own.signature (own.spec 𝓤 H (𝓖 .A) (𝓜 .mem) (𝓡 .run)))
     (tables 𝓤 H 𝓜 𝓡 code.env .C) (tables 𝓤 H 𝓜 𝓡 code.env .Λ) #own code.function (code.unfolded 𝓤 H 𝓜 𝓡)
     (own-meets 𝓤 H (𝓖 .A) (givenOf 𝓤 H 𝓜 𝓖) (𝓜 .mem) (𝓡 .run) (tablesOf 𝓤 H 𝓜 (tables 𝓤 H 𝓜 𝓡 code.env))
-    (cited 𝓤 H (Start 𝓤 H (𝓖 .A) (𝓜 .mem) (𝓡 .run))
-    𝓜 𝓡 code.env #start start-def.routine code.calls-versions·chain·start (start-thm.met 𝓤 H 𝓜 𝓖 𝓡))
-    (cited 𝓤 H (Follow 𝓤 H (𝓖 .A) (𝓜 .mem) (𝓡 .run))
-    𝓜 𝓡 code.env #follow follow-def.routine code.calls-versions·chain·follow (follow-thm.met 𝓤 H 𝓜 𝓖 𝓡))
+    (cited 𝓤 H (Lesser 𝓤 H (𝓖 .A) (𝓜 .mem) (𝓡 .run))
+    𝓜 𝓡 code.env #lesser lesser-def.routine code.calls-versions·table·lesser (lesser-thm.met 𝓤 H 𝓜 𝓖 𝓡))
     (cited 𝓤 H (EntryAt 𝓤 H (𝓖 .A) (𝓜 .mem) (𝓡 .run)) 𝓜 𝓡 code.env #entry-at entry-at-def.routine
     code.calls-versions·table·entry-at (entry-at-thm.met 𝓤 H 𝓜 𝓖 𝓡))
+    (cited 𝓤 H (Passes 𝓤 H (𝓖 .A) (𝓜 .mem) (𝓡 .run))
+    𝓜 𝓡 code.env #passes passes-def.routine code.calls-versions·chain·passes (passes-thm.met 𝓤 H 𝓜 𝓖 𝓡))
     (cited 𝓤 H (Answer 𝓤 H (𝓖 .A) (𝓜 .mem) (𝓡 .run))
     𝓜 𝓡 code.env #answer answer-def.routine code.calls-versions·chain·answer (answer-thm.met 𝓤 H 𝓜 𝓖 𝓡)))

@@ -49,7 +49,7 @@ use Rattle.walks.proofs.Locals.{tyAt, envOf, after}
 use Rattle.walks.proofs.Typed.{num-typed, bool-typed, unit-typed, wider-w8, wider-w16, wider-w32}
 use Rattle.walks.proofs.Value as Value
 use Rattle.walks.proofs.Choice as Choice
-use Rattle.walks.proofs.Loans.{holds, sees, lend-mut, back-mut, lend-shr, back-shr, use4, use6}
+use Rattle.walks.proofs.Loans.{holds, sees, lend-mut, back-mut, lend-shr, back-shr, use4, use6, use8, use10}
 use Prim.Native.Nat.{suc, _+_, _-_, _≤_, zero-le}
 use native.Mathlib.Nat.{le-antisymm, lt-of-le-of-lt}
 use native.Mathlib.Numerals.{add-one, add-one-le, add-one-dec}
@@ -63,34 +63,45 @@ use types.Run.{bin, assigns-last, first, blocks, branches, skips, jumps, exec, B
 use Rattle.versions.specs.declared.Version.{Version}
 use Rattle.versions.specs.declared.plan.Fill.{Fill}
 use Rattle.versions.specs.declared.plan.Link.{Link}
-use Rattle.versions.specs.declared.chain.Walking.{Walking}
 use Rattle.versions.specs.declared.chain.Walked.{Walked}
 use Rattle.versions.specs.Entry.{emptyEntry, linkedOf, endedOf, filledOf}
 use Rattle.versions.specs.Table.{entryOf, putOf, clearOf, lesserOf}
 use Rattle.versions.specs.Step.{precedingOf, linkOf, fillOf}
-use Rattle.versions.specs.Chain.{walkOf as walkedOf}
-use Rattle.versions.specs.LawsFollow.{startOf, steppedOf, followOf, answerOf}
+use Rattle.versions.specs.Chain.{walkFrom, walkOf as walkedOf}
+use Rattle.versions.specs.LawsFollow.{passesOf, answerOf}
 use Rattle.versions.specs.Seal.{slotOf, soundOn, soundBelow, newestSoundOf, takeOf, collectBelow}
 use Rattle.versions.specs.Seal.{collectOf}
+use Rattle.versions.specs.LawsSeal.{namedOf}
+use Rattle.terms.specs.Reserved.{noSlot}
+use lib.Dec.{eqb}
 use Rattle.versions.proofs.Version as T
 use Rattle.versions.proofs.Version.Laws as T′
 use Rattle.versions.proofs.plan.Link as L
 use Rattle.versions.proofs.plan.Link.Laws as L′
 use Rattle.versions.proofs.plan.Fill as F
 use Rattle.versions.proofs.plan.Fill.Laws as F′
-use Rattle.versions.proofs.chain.Walking as K
-use Rattle.versions.proofs.chain.Walking.Laws as K′
 use Rattle.versions.proofs.chain.Walked as E
 use Rattle.versions.proofs.chain.Walked.Laws as E′
 use Rattle.versions.specs.LawsSeal.{collect-below-length}
+use Rattle.versions.proofs.Laws.Seal.{take-named, collect-lesser}
+use Rattle.versions.proofs.table.lesser.Symbol as lesser-def
+use Rattle.versions.proofs.table.lesser.Symbol.{name as #lesser}
+use Rattle.versions.proofs.table.lesser.Met as lesser-thm
+use Rattle.versions.proofs.Laws.Calls.Table.{Lesser, to-lesser, lesser-said, lesser-goes, lesser-gives}
 use Rattle.versions.proofs.seal.slot_at.Symbol as slot-at-def
 use Rattle.versions.proofs.seal.slot_at.Symbol.{name as #slot-at}
 use Rattle.versions.proofs.seal.slot_at.Met as slot-at-thm
 use Rattle.versions.proofs.Laws.Calls.Seal.{SlotAt, to-slot-at, slot-at-said, slot-at-goes, slot-at-gives}
-use Rattle.versions.proofs.table.entry_at.Symbol as entry-at-def
-use Rattle.versions.proofs.table.entry_at.Symbol.{name as #entry-at}
-use Rattle.versions.proofs.table.entry_at.Met as entry-at-thm
-use Rattle.versions.proofs.Laws.Calls.Table.{EntryAt, to-entry-at, entry-at-said, entry-at-goes, entry-at-gives}
+use Rattle.versions.proofs.seal.entry_named.Symbol as entry-named-def
+use Rattle.versions.proofs.seal.entry_named.Symbol.{name as #entry-named}
+use Rattle.versions.proofs.seal.entry_named.Met as entry-named-thm
+use Rattle.versions.proofs.Laws.Calls.Seal.{
+  EntryNamed,
+  to-entry-named,
+  entry-named-said,
+  entry-named-goes,
+  entry-named-gives,
+}
 use Rattle.versions.proofs.seal.take.Symbol as take-def
 use Rattle.versions.proofs.seal.take.Symbol.{name as #take}
 use Rattle.versions.proofs.seal.take.Met as take-thm
@@ -210,7 +221,7 @@ module _ {M : Type 1} (𝓤 : URA M) (H : Heap 𝓤) (A : Atoms 𝓤) (W : Given
       feqI ! (List Val) (vunit ∷ []) (vunit ∷ []) refl $ done !
 
   abbrev n : ℕ
-  n = m-records
+  n = lesserOf m-records m-newest
 
   -- the turns so far, at most n; a turn brings the walk nearer to n
   abbrev Upto : Type 0
@@ -222,8 +233,9 @@ module _ {M : Type 1} (𝓤 : URA M) (H : Heap 𝓤) (A : Atoms 𝓤) (W : Given
   Nearer-wf : WellFounded Nearer
   Nearer-wf = InvImage·wf (λ (i : Upto). n - i .0) (Nat·lt-wfRel .wf)
 
-  module _ (𝓣 : Tables 𝓤 H) (k-slot-at : Triple 𝓤 (𝓣 .C #slot-at) (SlotAt 𝓤 H A mem run)) (k-entry-at : Triple 𝓤
-      (𝓣 .C #entry-at) (EntryAt 𝓤 H A mem run)) (k-take : Triple 𝓤 (𝓣 .C #take) (Take 𝓤 H A mem run)) where
+  module _ (𝓣 : Tables 𝓤 H) (k-lesser : Triple 𝓤 (𝓣 .C #lesser) (Lesser 𝓤 H A mem run)) (k-slot-at : Triple 𝓤
+      (𝓣 .C #slot-at) (SlotAt 𝓤 H A mem run)) (k-entry-named : Triple 𝓤 (𝓣 .C #entry-named)
+      (EntryNamed 𝓤 H A mem run)) (k-take : Triple 𝓤 (𝓣 .C #take) (Take 𝓤 H A mem run)) where
     abbrev C : Calls 𝓤 H
     C = 𝓣 .C
 
@@ -233,20 +245,24 @@ module _ {M : Type 1} (𝓤 : URA M) (H : Heap 𝓤) (A : Atoms 𝓤) (W : Given
     fm : FmC 𝓤 H (W .laws) C
     fm = fmOf 𝓤 H (W .laws) 𝓣
 
-    module _ (l-0 l-1 l-2 l-3 l-4 l-5 l-6 l-7 l-8 l-9 l-10 l-11 l-12 : ℕ) where
+    module _ (g-L5 : (lesserOf m-records m-newest) < 2 ^ 64) (g-L9 : m-records < 2 ^ 64) (g-L10 : m-newest < 2 ^ 64)
+        (l-0 l-1 l-2 l-3 l-4 l-5 l-6 l-7 l-8 l-9 l-10 l-11 l-12 l-13 l-14 : ℕ) where
       abbrev En : Env 𝓤 H
-      En = envOf mir′.locals (l-0 ∷ l-1 ∷ l-2 ∷ l-3 ∷ l-4 ∷ l-5 ∷ l-6 ∷ l-7 ∷ l-8 ∷ l-9 ∷ l-10 ∷ l-11 ∷ l-12 ∷ [])
+      En = envOf mir′.locals (l-0 ∷ l-1 ∷ l-2 ∷ l-3 ∷ l-4 ∷ l-5 ∷ l-6 ∷ l-7 ∷ l-8 ∷ l-9 ∷ l-10 ∷ l-11 ∷ l-12 ∷ l-13
+          ∷ l-14 ∷ [])
 
       -- what the walk has after i turns
       abbrev At : Upto → List (Item 𝓤)
       At i = ‵ (sees T.the-row b-versions o-versions m-versions κ-versions δ-versions versions) ∷ ‵
           (flft κ-versions q-versions) ∷ ‵ (sees u16 b-newest o-newest m-newest κ-newest δ-newest newest) ∷ ‵
           (flft κ-newest q-newest) ∷ ‵ (holds u64 b-records o-records m-records κ-records δ-records
-          (collectBelow versions newest records on (i .0))) ∷ ‵ (flft κ-records q-records) ∷ ‵ (froom (τ 12) l-12 0)
-          ∷ ‵ (fdies (τ 12) l-12) ∷ ‵ (froom (τ 11) l-11 0) ∷ ‵ (fdies (τ 11) l-11) ∷ ‵ (froom (τ 10) l-10 0) ∷ ‵
-          (fdies (τ 10) l-10) ∷ ‵ (froom (τ 9) l-9 0) ∷ ‵ (fdies (τ 9) l-9) ∷ ‵ (froom (τ 8) l-8 0) ∷ ‵ (fdies (τ 8)
-          l-8) ∷ ‵ (froom (τ 7) l-7 0) ∷ ‵ (fdies (τ 7) l-7) ∷ ‵ (froom (τ 6) l-6 0) ∷ ‵ (fdies (τ 6) l-6) ∷ ‵
-          (fat fullShare (τ 5) l-5 0 (vint w64 ((i .0)))) ∷ ‵ (fdies (τ 5) l-5) ∷ ‵ (fat fullShare (τ 4) l-4 0
+          (collectBelow versions newest records on (i .0))) ∷ ‵ (flft κ-records q-records) ∷ ‵ (froom (τ 14) l-14 0)
+          ∷ ‵ (fdies (τ 14) l-14) ∷ ‵ (froom (τ 13) l-13 0) ∷ ‵ (fdies (τ 13) l-13) ∷ ‵ (froom (τ 12) l-12 0) ∷ ‵
+          (fdies (τ 12) l-12) ∷ ‵ (froom (τ 11) l-11 0) ∷ ‵ (fdies (τ 11) l-11) ∷ ‵ (fat fullShare (τ 10) l-10 0
+          (vint w64 m-newest)) ∷ ‵ (fdies (τ 10) l-10) ∷ ‵ (fat fullShare (τ 9) l-9 0 (vint w64 m-records)) ∷ ‵
+          (fdies (τ 9) l-9) ∷ ‵ (froom (τ 8) l-8 0) ∷ ‵ (fdies (τ 8) l-8) ∷ ‵ (froom (τ 7) l-7 0) ∷ ‵ (fdies (τ 7)
+          l-7) ∷ ‵ (fat fullShare (τ 6) l-6 0 (vint w64 ((i .0)))) ∷ ‵ (fdies (τ 6) l-6) ∷ ‵ (fat fullShare (τ 5)
+          l-5 0 (vint w64 (lesserOf m-records m-newest))) ∷ ‵ (fdies (τ 5) l-5) ∷ ‵ (fat fullShare (τ 4) l-4 0
           (vbool on)) ∷ ‵ (fdies (τ 4) l-4) ∷ ‵ (fat fullShare (τ 3) l-3 0 (sliceVal (b-records, o-records)
           m-records)) ∷ ‵ (fdies (τ 3) l-3) ∷ ‵ (fat fullShare (τ 2) l-2 0 (sliceVal (b-newest, o-newest) m-newest))
           ∷ ‵ (fdies (τ 2) l-2) ∷ ‵ (fat fullShare (τ 1) l-1 0 (sliceVal (b-versions, o-versions) m-versions)) ∷ ‵
@@ -254,18 +270,16 @@ module _ {M : Type 1} (𝓤 : URA M) (H : Heap 𝓤) (A : Atoms 𝓤) (W : Given
 
       abbrev Turned : Upto → Out → SProp 𝓤
       Turned i = afterTurn 𝓤 H (Below 𝓤 H A Nearer At i)
-          (afterBlock 𝓤 H (afterSeq 𝓤 H (Wp 𝓤 H C Λ En mir′.t-3 (atReturn 𝓤 H En Post)) (atReturn 𝓤 H En Post)))
+          (afterBlock 𝓤 H (afterSeq 𝓤 H (Wp 𝓤 H C Λ En mir′.t-6 (atReturn 𝓤 H En Post)) (atReturn 𝓤 H En Post)))
 
       turns : (i : Upto) → Sq W (At i) (runs C Λ En mir′.turn-1 (anyQ (Turned i)))
       unfolding afterTurn
       turns i =
-          assigns ! (of-opd ! (load ! (from ! (fld ! refl (stop !))) (look-in ! 24 (sub ! 1 refl (whole !))))) (from !
-          (stop !)) (init ! 14 refl (tt, record { fits = room-records .0 })) $
-          assigns ! (bin ! (load ! (from ! (stop !)) (look ! 20 refl)) (load ! (from ! (stop !)) (look ! 14 refl)) tt)
+          assigns ! (bin ! (load ! (from ! (stop !)) (look ! 22 refl)) (load ! (from ! (stop !)) (look ! 24 refl)) tt)
           (from ! (stop !)) (init ! 12 refl (tt, tt)) $
           first ! $ branches ! (load ! (from ! (stop !)) (look ! 12 refl))
           (λ less.
-          skips ! $ exec ! C Λ En (after 3 mir′.turn-1) (anyQ (Turned i)) $
+          skips ! $ exec ! C Λ En (after 2 mir′.turn-1) (anyQ (Turned i)) $
           move ! (2 ∷ []) $
           use1 W (‵ (sees u16 b-newest o-newest m-newest κ-newest δ-newest newest) ⊛ ‵
           (sees u16 b-newest o-newest m-newest κ-newest δ-newest newest)) (shr-slice-copy 𝓤 H A W (named 0)
@@ -278,15 +292,13 @@ module _ {M : Type 1} (𝓤 : URA M) (H : Heap 𝓤) (A : Atoms 𝓤) (W : Given
           b-newest o-newest m-newest κ-newest q-newest δ-newest (fits i)) $
           calls-at ! fm (SlotAt 𝓤 H A mem run) k-slot-at (to-slot-at 𝓤 H A W mem run newest ((i .0))
           b-newest o-newest m-newest κ-newest q-newest δ-newest) (and-then ! (load ! (from ! (stop !))
-          (look ! 26 refl)) (and-then ! (load ! (from ! (stop !)) (look ! 20 refl)) (no-more !))) (λ u1.
+          (look ! 30 refl)) (and-then ! (load ! (from ! (stop !)) (look ! 22 refl)) (no-more !))) (λ u2.
           use1 W (later (some (λ (x : Unit {0}). given (slot-at-said 𝓤 H A W mem run newest ((i .0))
-          b-newest o-newest m-newest κ-newest q-newest δ-newest u1 x) (‵ (flft κ-newest q-newest)))))
-          (slot-at-gives 𝓤 H A W mem run newest ((i .0)) b-newest o-newest m-newest κ-newest q-newest δ-newest u1)
-          $ await ! tt $ pick ! (λ x1. learn ! (λ s1.
-          land ! (from ! (stop !)) (init ! 18 refl (num-typed w16 u1 (slotOf newest ((i .0))) (s1))) $
-          rewrite ! 18 (λ (z : Val). ‵ (fat fullShare (τ 6) l-6 0 z)) (s1 .0) refl $
-          assigns ! (un ! (load ! (from ! (stop !)) (look ! 18 refl)) (record { fits = wider-w16 (s1 .1) })) (from !
-          (stop !)) (store ! 14 refl (tt, record { fits = wider-w16 (s1 .1) })) $
+          b-newest o-newest m-newest κ-newest q-newest δ-newest u2 x) (‵ (flft κ-newest q-newest)))))
+          (slot-at-gives 𝓤 H A W mem run newest ((i .0)) b-newest o-newest m-newest κ-newest q-newest δ-newest u2)
+          $ await ! tt $ pick ! (λ x2. learn ! (λ s2.
+          land ! (from ! (stop !)) (init ! 20 refl (num-typed w16 u2 (slotOf newest ((i .0))) (s2))) $
+          rewrite ! 20 (λ (z : Val). ‵ (fat fullShare (τ 7) l-7 0 z)) (s2 .0) refl $
           move ! (2 ∷ []) $
           use1 W (‵ (sees T.the-row b-versions o-versions m-versions κ-versions δ-versions versions) ⊛ ‵
           (sees T.the-row b-versions o-versions m-versions κ-versions δ-versions versions)) (shr-slice-copy 𝓤 H A W
@@ -298,86 +310,93 @@ module _ {M : Type 1} (𝓤 : URA M) (H : Heap 𝓤) (A : Atoms 𝓤) (W : Given
           }) (sliceVal (b-versions, o-versions) m-versions ∷ [])) $
           split ! $
           move ! (4 ∷ 0 ∷ []) $
-          use2 W (raw (EntryAt 𝓤 H A mem run .pre (to-entry-at 𝓤 H A W mem run versions (slotOf newest ((i .0)))
+          use2 W (raw (EntryNamed 𝓤 H A mem run .pre (to-entry-named 𝓤 H A W mem run versions (slotOf newest ((i .0)))
           b-versions o-versions m-versions κ-versions q-versions δ-versions)))
-          (entry-at-goes 𝓤 H A W mem run versions (slotOf newest ((i .0)))
-          b-versions o-versions m-versions κ-versions q-versions δ-versions (wider-w16 (s1 .1))) $
-          calls-at ! fm (EntryAt 𝓤 H A mem run) k-entry-at (to-entry-at 𝓤 H A W mem run versions (slotOf newest
-          ((i .0))) b-versions o-versions m-versions κ-versions q-versions δ-versions) (and-then ! (load ! (from !
-          (stop !)) (look ! 28 refl)) (and-then ! (load ! (from ! (stop !)) (look ! 14 refl)) (no-more !))) (λ u2.
-          use1 W (later (some (λ (x : Unit {0}). given (entry-at-said 𝓤 H A W mem run versions (slotOf newest ((i .0)))
-          b-versions o-versions m-versions κ-versions q-versions δ-versions u2 x)
-          (‵ (flft κ-versions q-versions))))) (entry-at-gives 𝓤 H A W mem run versions (slotOf newest ((i .0)))
-          b-versions o-versions m-versions κ-versions q-versions δ-versions u2) $ await ! tt $
-          pick ! (λ x2. learn ! (λ s2.
-          land ! (from ! (stop !)) (init ! 16 refl (Value.typed T.the-type T′.the-laws 𝓤 H A W (entryOf versions
-          (slotOf newest ((i .0)))) u2 (s2))) $
-          rewrite ! 16 (λ (z : Val). ‵ (fat fullShare (τ 7) l-7 0 z)) (s2 .0) refl $
-          assigns ! (addr ! (from ! (fld ! refl (hop ! (look-in ! 24 (sub ! 0 refl (whole !))) (stop !))))) (from !
+          (entry-named-goes 𝓤 H A W mem run versions (slotOf newest ((i .0)))
+          b-versions o-versions m-versions κ-versions q-versions δ-versions (s2 .1)) $
+          calls-at ! fm (EntryNamed 𝓤 H A mem run) k-entry-named (to-entry-named 𝓤 H A W mem run versions
+          (slotOf newest ((i .0))) b-versions o-versions m-versions κ-versions q-versions δ-versions) (and-then !
+          (load ! (from ! (stop !)) (look ! 32 refl)) (and-then ! (load ! (from ! (stop !)) (look ! 20 refl))
+          (no-more !))) (λ u3.
+          use1 W (later (some (λ (x : Unit {0}). given (entry-named-said 𝓤 H A W mem run versions (slotOf newest
+          ((i .0))) b-versions o-versions m-versions κ-versions q-versions δ-versions u3 x)
+          (‵ (flft κ-versions q-versions))))) (entry-named-gives 𝓤 H A W mem run versions (slotOf newest ((i .0)))
+          b-versions o-versions m-versions κ-versions q-versions δ-versions u3) $ await ! tt $
+          pick ! (λ x3. learn ! (λ s3.
+          land ! (from ! (stop !)) (init ! 18 refl (Value.typed T.the-type T′.the-laws 𝓤 H A W (namedOf versions
+          (slotOf newest ((i .0)))) u3 (s3))) $
+          rewrite ! 18 (λ (z : Val). ‵ (fat fullShare (τ 8) l-8 0 z)) (s3 .0) refl $
+          assigns ! (addr ! (from ! (fld ! refl (hop ! (look-in ! 28 (sub ! 0 refl (whole !))) (stop !))))) (from !
           (stop !)) (init ! 8 refl (tt, tt)) $
           assigns ! (agg ! (and-then ! (load ! (from ! (stop !)) (look ! 8 refl)) (and-then ! (load ! (from !
-          (fld ! refl (stop !))) (look-in ! 24 (sub ! 1 refl (whole !)))) (no-more !)))) (from ! (stop !))
+          (fld ! refl (stop !))) (look-in ! 28 (sub ! 1 refl (whole !)))) (no-more !)))) (from ! (stop !))
           (init ! 6 refl (tt, (tt, (record { fits = room-records .0 }, tt)))) $
           move ! (4 ∷ 5 ∷ []) $
           lend-mut 𝓤 H A W u64 b-records o-records m-records (collectBelow versions newest records on (i .0))
           (collect-below-length versions newest records on (i .0)) room-records ! tt κ-records q-records δ-records
-          (λ ν-records3 δ-records3.
+          (λ ν-records4 δ-records4.
           use2 W (raw (Take 𝓤 H A mem run .pre (to-take 𝓤 H A W mem run (collectBelow versions newest records on
-          (i .0)) ((i .0)) (slotOf newest ((i .0))) (entryOf versions (slotOf newest ((i .0))))
-          on b-records o-records m-records (ν-records3 ∷ []) fullShare δ-records3))) (take-goes 𝓤 H A W mem run
-          (collectBelow versions newest records on (i .0)) ((i .0)) (slotOf newest ((i .0))) (entryOf versions
-          (slotOf newest ((i .0)))) on b-records o-records m-records (ν-records3 ∷ []) fullShare δ-records3
-          (fits i) (s1 .1) (s2 .1)) $
+          (i .0)) ((i .0)) (slotOf newest ((i .0))) (namedOf versions (slotOf newest ((i .0))))
+          on b-records o-records m-records (ν-records4 ∷ []) fullShare δ-records4))) (take-goes 𝓤 H A W mem run
+          (collectBelow versions newest records on (i .0)) ((i .0)) (slotOf newest ((i .0))) (namedOf versions
+          (slotOf newest ((i .0)))) on b-records o-records m-records (ν-records4 ∷ []) fullShare δ-records4
+          (fits i) (s2 .1) (s3 .1)) $
           calls-at ! fm (Take 𝓤 H A mem run) k-take (to-take 𝓤 H A W mem run (collectBelow versions newest records on
-          (i .0)) ((i .0)) (slotOf newest ((i .0))) (entryOf versions (slotOf newest ((i .0))))
-          on b-records o-records m-records (ν-records3 ∷ []) fullShare δ-records3) (and-then ! (load ! (from !
-          (stop !)) (look ! 6 refl)) (and-then ! (load ! (from ! (stop !)) (look ! 20 refl)) (and-then ! (load !
-          (from ! (stop !)) (look ! 18 refl)) (and-then ! (load ! (from ! (stop !)) (look ! 16 refl)) (and-then !
-          (load ! (from ! (stop !)) (look ! 22 refl)) (no-more !)))))) (λ u3.
+          (i .0)) ((i .0)) (slotOf newest ((i .0))) (namedOf versions (slotOf newest ((i .0))))
+          on b-records o-records m-records (ν-records4 ∷ []) fullShare δ-records4) (and-then ! (load ! (from !
+          (stop !)) (look ! 6 refl)) (and-then ! (load ! (from ! (stop !)) (look ! 22 refl)) (and-then ! (load !
+          (from ! (stop !)) (look ! 20 refl)) (and-then ! (load ! (from ! (stop !)) (look ! 18 refl)) (and-then !
+          (load ! (from ! (stop !)) (look ! 26 refl)) (no-more !)))))) (λ u4.
           use1 W (later (some (λ (x : List ℕ). given (take-said 𝓤 H A W mem run
-          (collectBelow versions newest records on (i .0)) ((i .0)) (slotOf newest ((i .0))) (entryOf versions
-          (slotOf newest ((i .0)))) on b-records o-records m-records (ν-records3 ∷ []) fullShare δ-records3 u3 x)
-          (‵ (flft (ν-records3 ∷ []) fullShare) ⊛ ‵ (finally u64 δ-records3 (x)))))) (take-gives 𝓤 H A W mem run
-          (collectBelow versions newest records on (i .0)) ((i .0)) (slotOf newest ((i .0))) (entryOf versions
-          (slotOf newest ((i .0)))) on b-records o-records m-records (ν-records3 ∷ []) fullShare δ-records3 u3) $
-          await ! tt $ pick ! (λ x3. learn ! (λ s3.
+          (collectBelow versions newest records on (i .0)) ((i .0)) (slotOf newest ((i .0))) (namedOf versions
+          (slotOf newest ((i .0)))) on b-records o-records m-records (ν-records4 ∷ []) fullShare δ-records4 u4 x)
+          (‵ (flft (ν-records4 ∷ []) fullShare) ⊛ ‵ (finally u64 δ-records4 (x)))))) (take-gives 𝓤 H A W mem run
+          (collectBelow versions newest records on (i .0)) ((i .0)) (slotOf newest ((i .0))) (namedOf versions
+          (slotOf newest ((i .0)))) on b-records o-records m-records (ν-records4 ∷ []) fullShare δ-records4 u4) $
+          await ! tt $ pick ! (λ x4. learn ! (λ s4.
           split ! $
           move ! (1 ∷ []) $
           move ! (1 ∷ 0 ∷ 2 ∷ []) $
           back-mut 𝓤 H A W u64 b-records o-records m-records (collectBelow versions newest records on (i .0))
           (collect-below-length versions newest records on (i .0)) room-records ! tt κ-records q-records δ-records
-          ν-records3 δ-records3 (x3) (s3 .1 .1) (
-          rewrite ! 0 (λ (l : List ℕ). ‵ (holds u64 b-records o-records m-records κ-records δ-records l)) (s3 .1 .0)
+          ν-records4 δ-records4 (x4) (s4 .1 .1) (
+          rewrite ! 0 (λ (l : List ℕ). ‵ (holds u64 b-records o-records m-records κ-records δ-records l)) (s4 .1 .0)
           refl $
-          land ! (from ! (stop !)) (init ! 10 refl (unit-typed u3 (s3 .0))) $
-          assigns-last ! (bin ! (load ! (from ! (stop !)) (look ! 20 refl)) (lit ! tt) (record {
+          land ! (from ! (stop !)) (init ! 10 refl (unit-typed u4 (s4 .0))) $
+          assigns-last ! (bin ! (load ! (from ! (stop !)) (look ! 22 refl)) (lit ! tt) (record {
             fits = fits
                 (next less);
-          })) (from ! (stop !)) (store ! 20 refl (tt, record { fits = fits (next less) })) $
+          })) (from ! (stop !)) (store ! 22 refl (tt, record { fits = fits (next less) })) $
+          forget ! 20 refl $
           forget ! 18 refl $
-          forget ! 16 refl $
-          forget ! 14 refl $
           forget ! 12 refl $
           forget ! 10 refl $
           forget ! 8 refl $
           forget ! 6 refl $
           move ! (3 ∷ 2 ∷ 5 ∷ 4 ∷ 0 ∷ 1 ∷ 6 ∷ 7 ∷ 8 ∷ 9 ∷ 10 ∷ 11 ∷ 12 ∷ 13 ∷ 14 ∷ 15 ∷ 16 ∷ 17 ∷ 18 ∷ 19 ∷ 20 ∷ 21
-          ∷ 22 ∷ 23 ∷ 24 ∷ 25 ∷ 26 ∷ 27 ∷ 28 ∷ 29 ∷ 30 ∷ 31 ∷ []) $
-          rewrite ! 4 (λ (l : List ℕ). ‵ (holds u64 b-records o-records m-records κ-records δ-records l)) (refl ∙ ap
-          (λ (k : ℕ). collectBelow versions newest records on k) (sym (add-one (i .0)))) refl $
+          ∷ 22 ∷ 23 ∷ 24 ∷ 25 ∷ 26 ∷ 27 ∷ 28 ∷ 29 ∷ 30 ∷ 31 ∷ 32 ∷ 33 ∷ 34 ∷ 35 ∷ []) $
+          rewrite ! 4 (λ (l : List ℕ). ‵ (holds u64 b-records o-records m-records κ-records δ-records l))
+          (take-named versions (collectBelow versions newest records on (i .0)) (i .0) (slotOf newest (i .0))
+          on ∙ ap (λ (k : ℕ). collectBelow versions newest records on k) (sym (add-one (i .0)))) refl $
           again ! Nearer At i (next less) (add-one-dec n (i .0) (ltb→lt (i .0) n less))))))))))))))
           (λ over.
-          jumps ! $ exec ! C Λ En mir′.t-3 (atRet En Post) $
-          assigns ! (of-opd ! (unit-lit !)) (from ! (stop !)) (init ! 30 refl (tt, tt)) $
-          returns ! (look ! 30 refl) $
+          jumps ! $ exec ! C Λ En mir′.t-6 (atRet En Post) $
+          assigns ! (of-opd ! (unit-lit !)) (from ! (stop !)) (init ! 34 refl (tt, tt)) $
+          returns ! (look ! 34 refl) $
+          forget ! 34 refl $
+          forget ! 32 refl $
           forget ! 30 refl $
           forget ! 28 refl $
           forget ! 26 refl $
           forget ! 24 refl $
           forget ! 22 refl $
-          forget ! 20 refl $
+          forget ! 16 refl $
           forget ! 14 refl $
           forget ! 12 refl $
+          move ! (34 ∷ 35 ∷ []) $
+          free1 ! $
+          move ! (32 ∷ 33 ∷ []) $
+          free1 ! $
           move ! (30 ∷ 31 ∷ []) $
           free1 ! $
           move ! (28 ∷ 29 ∷ []) $
@@ -407,10 +426,10 @@ module _ {M : Type 1} (𝓤 : URA M) (H : Heap 𝓤) (A : Atoms 𝓤) (W : Given
           free0 ! $
           by ! (exits (collectBelow versions newest records on (i .0)) (collect-below-length versions newest records on
           (i .0)) (ap (λ (k : ℕ). collectBelow versions newest records on k) (le-antisymm (i .1) (nltb→le (i .0)
-          n over)) ∙ refl)))
+          n over)) ∙ (collect-lesser versions newest records on))))
         where
           fits : (j : Upto) → j .0 < 2 ^ 64
-          fits j = lt-of-le-of-lt (j .1) (room-records .0)
+          fits j = lt-of-le-of-lt (j .1) g-L5
 
           next : Holds (ltb (i .0) n) → Upto
           next less = (i .0 + 1, add-one-le (ltb→lt (i .0) n less))
@@ -442,14 +461,16 @@ module _ {M : Type 1} (𝓤 : URA M) (H : Heap 𝓤) (A : Atoms 𝓤) (W : Given
         alloc1 ! (λ l-10.
         alloc1 ! (λ l-11.
         alloc1 ! (λ l-12.
+        alloc1 ! (λ l-13.
+        alloc1 ! (λ l-14.
         alloc0 ! $
         params1 ! $
-        pass1 ! (init ! 22 refl (tt, (tt, (record { fits = room-versions .0 }, tt)))) $
-        pass1 ! (init ! 20 refl (tt, (tt, (record { fits = room-newest .0 }, tt)))) $
-        pass1 ! (init ! 18 refl (tt, (tt, (record { fits = room-records .0 }, tt)))) $
-        pass1 ! (init ! 16 refl (tt, tt)) $
+        pass1 ! (init ! 26 refl (tt, (tt, (record { fits = room-versions .0 }, tt)))) $
+        pass1 ! (init ! 24 refl (tt, (tt, (record { fits = room-newest .0 }, tt)))) $
+        pass1 ! (init ! 22 refl (tt, (tt, (record { fits = room-records .0 }, tt)))) $
+        pass1 ! (init ! 20 refl (tt, tt)) $
         pass0 ! $
-        move ! (27 ∷ []) $
+        move ! (31 ∷ []) $
         fsplit ! $
         move ! (1 ∷ []) $
         fsplit ! $
@@ -459,7 +480,7 @@ module _ {M : Type 1} (𝓤 : URA M) (H : Heap 𝓤) (A : Atoms 𝓤) (W : Given
         fsplit ! $
         drop ! $
         drop ! $
-        move ! (29 ∷ []) $
+        move ! (33 ∷ []) $
         split ! $
         move ! (1 ∷ []) $
         split ! $
@@ -467,18 +488,36 @@ module _ {M : Type 1} (𝓤 : URA M) (H : Heap 𝓤) (A : Atoms 𝓤) (W : Given
         split ! $
         move ! (1 ∷ []) $
         drop ! $
-        assigns ! (of-opd ! (lit ! tt)) (from ! (stop !)) (init ! 20 refl (tt, record { fits = lit< tt })) $
+        assigns ! (of-opd ! (load ! (from ! (fld ! refl (stop !))) (look-in ! 28 (sub ! 1 refl (whole !))))) (from !
+        (stop !)) (init ! 16 refl (tt, record { fits = room-records .0 })) $
+        assigns ! (of-opd ! (load ! (from ! (fld ! refl (stop !))) (look-in ! 30 (sub ! 1 refl (whole !))))) (from !
+        (stop !)) (init ! 14 refl (tt, record { fits = room-newest .0 })) $
+        use0 W (raw (Lesser 𝓤 H A mem run .pre (to-lesser 𝓤 H A W mem run m-records m-newest)))
+        (lesser-goes 𝓤 H A W mem run m-records m-newest (room-records .0) (room-newest .0)) $
+        calls-at ! fm (Lesser 𝓤 H A mem run) k-lesser (to-lesser 𝓤 H A W mem run m-records m-newest) (and-then !
+        (load ! (from ! (stop !)) (look ! 17 refl)) (and-then ! (load ! (from ! (stop !)) (look ! 15 refl))
+        (no-more !))) (λ u1.
+        use1 W (later (some (λ (x : Unit {0}). given (lesser-said 𝓤 H A W mem run m-records m-newest u1 x)
+        (raw (emp 𝓤))))) (lesser-gives 𝓤 H A W mem run m-records m-newest u1) $ await ! tt $
+        pick ! (λ x1. learn ! (λ s1.
+        drop ! $
+        land ! (from ! (stop !)) (init ! 24 refl (num-typed w64 u1 (lesserOf m-records m-newest) (s1))) $
+        rewrite ! 24 (λ (z : Val). ‵ (fat fullShare (τ 5) l-5 0 z)) (s1 .0) refl $
+        assigns ! (of-opd ! (lit ! tt)) (from ! (stop !)) (init ! 22 refl (tt, record { fits = lit< tt })) $
         move ! (5 ∷ 2 ∷ 4 ∷ 1 ∷ 3 ∷ 0 ∷ 6 ∷ 7 ∷ 8 ∷ 9 ∷ 10 ∷ 11 ∷ 12 ∷ 13 ∷ 14 ∷ 15 ∷ 16 ∷ 17 ∷ 18 ∷ 19 ∷ 20 ∷ 21
-        ∷ 22 ∷ 23 ∷ 24 ∷ 25 ∷ 26 ∷ 27 ∷ 28 ∷ 29 ∷ 30 ∷ 31 ∷ []) $
-        first ! $ blocks ! $ loops ! 𝓣 Nearer Nearer-wf (At l-0 l-1 l-2 l-3 l-4 l-5 l-6 l-7 l-8 l-9 l-10 l-11 l-12)
-        (turns l-0 l-1 l-2 l-3 l-4 l-5 l-6 l-7 l-8 l-9 l-10 l-11 l-12) (0, zero-le))))))))))))))
+        ∷ 22 ∷ 23 ∷ 24 ∷ 25 ∷ 26 ∷ 27 ∷ 28 ∷ 29 ∷ 30 ∷ 31 ∷ 32 ∷ 33 ∷ 34 ∷ 35 ∷ []) $
+        first ! $ blocks ! $ loops ! 𝓣 Nearer Nearer-wf (At (s1 .1) (room-records .0) (room-newest .0)
+        l-0 l-1 l-2 l-3 l-4 l-5 l-6 l-7 l-8 l-9 l-10 l-11 l-12 l-13 l-14) (turns (s1 .1) (room-records .0)
+        (room-newest .0) l-0 l-1 l-2 l-3 l-4 l-5 l-6 l-7 l-8 l-9 l-10 l-11 l-12 l-13 l-14)
+        (0, zero-le)))))))))))))))))))
 
 module _ {M : Type 1} (𝓤 : URA M) (H : Heap 𝓤) (A : Atoms 𝓤) (W : Given 𝓤 H A) (mem : Memory
     → SProp 𝓤) (run : Routine → Fun 𝓤) where
-  own-walks : (𝓣 : Tables 𝓤 H) → Triple 𝓤 (𝓣 .C #slot-at) (SlotAt 𝓤 H A mem run)
-      → Triple 𝓤 (𝓣 .C #entry-at) (EntryAt 𝓤 H A mem run) → Triple 𝓤 (𝓣 .C #take) (Take 𝓤 H A mem run)
-      → Walks 𝓤 H A own.ended stayed (WpFn 𝓤 H (𝓣 .C) (𝓣 .Λ) code.function) (own.clauses 𝓤 H A mem run)
-  own-walks 𝓣 k-slot-at k-entry-at k-take =
+  own-walks : (𝓣 : Tables 𝓤 H) → Triple 𝓤 (𝓣 .C #lesser) (Lesser 𝓤 H A mem run)
+      → Triple 𝓤 (𝓣 .C #slot-at) (SlotAt 𝓤 H A mem run) → Triple 𝓤 (𝓣 .C #entry-named) (EntryNamed 𝓤 H A mem run)
+      → Triple 𝓤 (𝓣 .C #take) (Take 𝓤 H A mem run) → Walks 𝓤 H A own.ended stayed (WpFn 𝓤 H (𝓣 .C) (𝓣 .Λ)
+      code.function) (own.clauses 𝓤 H A mem run)
+  own-walks 𝓣 k-lesser k-slot-at k-entry-named k-take =
       walked 𝓤 H A own.ended stayed (own.clauses 𝓤 H A mem run) (WpFn 𝓤 H (𝓣 .C) (𝓣 .Λ) code.function) (λ κs.
       (slice-vals, (slice-vals, (slice-vals, (bool-vals, tt))))) (λ κs. (
         shr-slice-tells (named 0) (κs .0) T.the-row,
@@ -495,13 +534,14 @@ module _ {M : Type 1} (𝓤 : URA M) (H : Heap 𝓤) (A : Atoms 𝓤) (W : Given
       (qs .1 .1 .0) (a .0 .ptr .0) (a .0 .ptr .1) (a .0 .name) (a .0 .now) (a .1 .0 .ptr .0) (a .1 .0 .ptr .1)
       (a .1 .0 .name) (a .1 .0 .now) (a .1 .1 .0 .ptr .0) (a .1 .1 .0 .ptr .1) (a .1 .1 .0 .name)
       (a .1 .1 .0 .now) (a .1 .1 .1 .0) (are .0 .0 .1) (are .1 .0 .0 .1) (are .1 .1 .0 .0 .1)
-      𝓣 k-slot-at k-entry-at k-take))
+      𝓣 k-lesser k-slot-at k-entry-named k-take))
 
 own-meets : {M : Type 1} (𝓤 : URA M) (H : Heap 𝓤) (A : Atoms 𝓤) → Given 𝓤 H A → (mem : Memory
-    → SProp 𝓤) (run : Routine → Fun 𝓤) (𝓣 : Tables 𝓤 H) → Triple 𝓤 (𝓣 .C #slot-at) (SlotAt 𝓤 H A mem run)
-    → Triple 𝓤 (𝓣 .C #entry-at) (EntryAt 𝓤 H A mem run) → Triple 𝓤 (𝓣 .C #take) (Take 𝓤 H A mem run)
-    → Meets 𝓤 H A own.signature (WpFn 𝓤 H (𝓣 .C) (𝓣 .Λ) code.function) (own.spec 𝓤 H A mem run)
-own-meets 𝓤 H A W mem run 𝓣 k-slot-at k-entry-at k-take =
+    → SProp 𝓤) (run : Routine → Fun 𝓤) (𝓣 : Tables 𝓤 H) → Triple 𝓤 (𝓣 .C #lesser) (Lesser 𝓤 H A mem run)
+    → Triple 𝓤 (𝓣 .C #slot-at) (SlotAt 𝓤 H A mem run) → Triple 𝓤 (𝓣 .C #entry-named) (EntryNamed 𝓤 H A mem run)
+    → Triple 𝓤 (𝓣 .C #take) (Take 𝓤 H A mem run) → Meets 𝓤 H A own.signature (WpFn 𝓤 H (𝓣 .C) (𝓣 .Λ) code.function)
+    (own.spec 𝓤 H A mem run)
+own-meets 𝓤 H A W mem run 𝓣 k-lesser k-slot-at k-entry-named k-take =
     walk-meets 𝓤 H A own.ended stayed W (
       goes-none-slice 𝓤 H A W 3 (0 ∷ []) tt (plain (λ _.
           T.the-row)) yes,
@@ -515,7 +555,7 @@ own-meets 𝓤 H A W mem run 𝓣 k-slot-at k-entry-at k-take =
       ),
     ) (own.clauses 𝓤 H A mem run)
     (WpFn 𝓤 H (𝓣 .C) (𝓣 .Λ) code.function) (WpFn-mono 𝓤 H (W .laws) 𝓣 code.function)
-    (own-walks 𝓤 H A W mem run 𝓣 k-slot-at k-entry-at k-take)
+    (own-walks 𝓤 H A W mem run 𝓣 k-lesser k-slot-at k-entry-named k-take)
 
 pub collect-spec : {M : Type 1} → stated.statement M
 unfolding code.routine tablesOf
@@ -523,9 +563,11 @@ collect-spec 𝓤 H 𝓜 𝓖 𝓡 =
     entered 𝓤 H (tripleOf 𝓤 H (𝓖 .A) own.signature (own.spec 𝓤 H (𝓖 .A) (𝓜 .mem) (𝓡 .run)))
     (tables 𝓤 H 𝓜 𝓡 code.env .C) (tables 𝓤 H 𝓜 𝓡 code.env .Λ) #own code.function (code.unfolded 𝓤 H 𝓜 𝓡)
     (own-meets 𝓤 H (𝓖 .A) (givenOf 𝓤 H 𝓜 𝓖) (𝓜 .mem) (𝓡 .run) (tablesOf 𝓤 H 𝓜 (tables 𝓤 H 𝓜 𝓡 code.env))
+    (cited 𝓤 H (Lesser 𝓤 H (𝓖 .A) (𝓜 .mem) (𝓡 .run))
+    𝓜 𝓡 code.env #lesser lesser-def.routine code.calls-versions·table·lesser (lesser-thm.met 𝓤 H 𝓜 𝓖 𝓡))
     (cited 𝓤 H (SlotAt 𝓤 H (𝓖 .A) (𝓜 .mem) (𝓡 .run)) 𝓜 𝓡 code.env #slot-at slot-at-def.routine
     code.calls-versions·seal·slot-at (slot-at-thm.met 𝓤 H 𝓜 𝓖 𝓡))
-    (cited 𝓤 H (EntryAt 𝓤 H (𝓖 .A) (𝓜 .mem) (𝓡 .run)) 𝓜 𝓡 code.env #entry-at entry-at-def.routine
-    code.calls-versions·table·entry-at (entry-at-thm.met 𝓤 H 𝓜 𝓖 𝓡))
+    (cited 𝓤 H (EntryNamed 𝓤 H (𝓖 .A) (𝓜 .mem) (𝓡 .run)) 𝓜 𝓡 code.env #entry-named entry-named-def.routine
+    code.calls-versions·seal·entry-named (entry-named-thm.met 𝓤 H 𝓜 𝓖 𝓡))
     (cited 𝓤 H (Take 𝓤 H (𝓖 .A) (𝓜 .mem) (𝓡 .run)) 𝓜 𝓡 code.env #take take-def.routine code.calls-versions·seal·take
     (take-thm.met 𝓤 H 𝓜 𝓖 𝓡)))

@@ -49,7 +49,7 @@ use Rattle.walks.proofs.Locals.{tyAt, envOf, after}
 use Rattle.walks.proofs.Typed.{num-typed, bool-typed, unit-typed, wider-w8, wider-w16, wider-w32}
 use Rattle.walks.proofs.Value as Value
 use Rattle.walks.proofs.Choice as Choice
-use Rattle.walks.proofs.Loans.{holds, sees, lend-mut, back-mut, lend-shr, back-shr, use4, use6}
+use Rattle.walks.proofs.Loans.{holds, sees, lend-mut, back-mut, lend-shr, back-shr, use4, use6, use8, use10}
 use Prim.Native.Nat.{suc, _+_, _-_, _≤_, zero-le}
 use native.Mathlib.Nat.{le-antisymm, lt-of-le-of-lt}
 use native.Mathlib.Numerals.{add-one, add-one-le, add-one-dec}
@@ -63,25 +63,26 @@ use types.Run.{bin, assigns-last, first, blocks, branches, skips, jumps, exec, B
 use Rattle.versions.specs.declared.Version.{Version}
 use Rattle.versions.specs.declared.plan.Fill.{Fill}
 use Rattle.versions.specs.declared.plan.Link.{Link}
-use Rattle.versions.specs.declared.chain.Walking.{Walking}
 use Rattle.versions.specs.declared.chain.Walked.{Walked}
 use Rattle.versions.specs.Entry.{emptyEntry, linkedOf, endedOf, filledOf}
 use Rattle.versions.specs.Table.{entryOf, putOf, clearOf, lesserOf}
 use Rattle.versions.specs.Step.{precedingOf, linkOf, fillOf}
-use Rattle.versions.specs.Chain.{walkOf as walkedOf}
-use Rattle.versions.specs.LawsFollow.{startOf, steppedOf, followOf, answerOf}
+use Rattle.versions.specs.Chain.{walkFrom, walkOf as walkedOf}
+use Rattle.versions.specs.LawsFollow.{passesOf, answerOf}
 use Rattle.versions.specs.Seal.{slotOf, soundOn, soundBelow, newestSoundOf, takeOf, collectBelow}
 use Rattle.versions.specs.Seal.{collectOf}
+use Rattle.versions.specs.LawsSeal.{namedOf}
+use Rattle.terms.specs.Reserved.{noSlot}
+use lib.Dec.{eqb}
 use Rattle.versions.proofs.Version as T
 use Rattle.versions.proofs.Version.Laws as T′
 use Rattle.versions.proofs.plan.Link as L
 use Rattle.versions.proofs.plan.Link.Laws as L′
 use Rattle.versions.proofs.plan.Fill as F
 use Rattle.versions.proofs.plan.Fill.Laws as F′
-use Rattle.versions.proofs.chain.Walking as K
-use Rattle.versions.proofs.chain.Walking.Laws as K′
 use Rattle.versions.proofs.chain.Walked as E
 use Rattle.versions.proofs.chain.Walked.Laws as E′
+use Rattle.versions.proofs.Laws.Seal.{sound-named}
 use Rattle.versions.proofs.table.lesser.Symbol as lesser-def
 use Rattle.versions.proofs.table.lesser.Symbol.{name as #lesser}
 use Rattle.versions.proofs.table.lesser.Met as lesser-thm
@@ -90,10 +91,16 @@ use Rattle.versions.proofs.seal.slot_at.Symbol as slot-at-def
 use Rattle.versions.proofs.seal.slot_at.Symbol.{name as #slot-at}
 use Rattle.versions.proofs.seal.slot_at.Met as slot-at-thm
 use Rattle.versions.proofs.Laws.Calls.Seal.{SlotAt, to-slot-at, slot-at-said, slot-at-goes, slot-at-gives}
-use Rattle.versions.proofs.table.entry_at.Symbol as entry-at-def
-use Rattle.versions.proofs.table.entry_at.Symbol.{name as #entry-at}
-use Rattle.versions.proofs.table.entry_at.Met as entry-at-thm
-use Rattle.versions.proofs.Laws.Calls.Table.{EntryAt, to-entry-at, entry-at-said, entry-at-goes, entry-at-gives}
+use Rattle.versions.proofs.seal.entry_named.Symbol as entry-named-def
+use Rattle.versions.proofs.seal.entry_named.Symbol.{name as #entry-named}
+use Rattle.versions.proofs.seal.entry_named.Met as entry-named-thm
+use Rattle.versions.proofs.Laws.Calls.Seal.{
+  EntryNamed,
+  to-entry-named,
+  entry-named-said,
+  entry-named-goes,
+  entry-named-gives,
+}
 use Rattle.versions.proofs.seal.sound_on.Symbol as sound-on-def
 use Rattle.versions.proofs.seal.sound_on.Symbol.{name as #sound-on}
 use Rattle.versions.proofs.seal.sound_on.Met as sound-on-thm
@@ -204,8 +211,8 @@ module _ {M : Type 1} (𝓤 : URA M) (H : Heap 𝓤) (A : Atoms 𝓤) (W : Given
   Nearer-wf = InvImage·wf (λ (i : Upto). n - i .0) (Nat·lt-wfRel .wf)
 
   module _ (𝓣 : Tables 𝓤 H) (k-lesser : Triple 𝓤 (𝓣 .C #lesser) (Lesser 𝓤 H A mem run)) (k-slot-at : Triple 𝓤
-      (𝓣 .C #slot-at) (SlotAt 𝓤 H A mem run)) (k-entry-at : Triple 𝓤 (𝓣 .C #entry-at) (EntryAt 𝓤 H A mem run))
-      (k-sound-on : Triple 𝓤 (𝓣 .C #sound-on) (SoundOn 𝓤 H A mem run)) where
+      (𝓣 .C #slot-at) (SlotAt 𝓤 H A mem run)) (k-entry-named : Triple 𝓤 (𝓣 .C #entry-named)
+      (EntryNamed 𝓤 H A mem run)) (k-sound-on : Triple 𝓤 (𝓣 .C #sound-on) (SoundOn 𝓤 H A mem run)) where
     abbrev C : Calls 𝓤 H
     C = 𝓣 .C
 
@@ -267,8 +274,6 @@ module _ {M : Type 1} (𝓤 : URA M) (H : Heap 𝓤) (A : Atoms 𝓤) (W : Given
           $ await ! tt $ pick ! (λ x2. learn ! (λ s2.
           land ! (from ! (stop !)) (init ! 12 refl (num-typed w16 u2 (slotOf newest ((i .0))) (s2))) $
           rewrite ! 12 (λ (z : Val). ‵ (fat fullShare (τ 7) l-7 0 z)) (s2 .0) refl $
-          assigns ! (un ! (load ! (from ! (stop !)) (look ! 12 refl)) (record { fits = wider-w16 (s2 .1) })) (from !
-          (stop !)) (store ! 6 refl (tt, record { fits = wider-w16 (s2 .1) })) $
           move ! (2 ∷ []) $
           use1 W (‵ (sees T.the-row b-versions o-versions m-versions κ-versions δ-versions versions) ⊛ ‵
           (sees T.the-row b-versions o-versions m-versions κ-versions δ-versions versions)) (shr-slice-copy 𝓤 H A W
@@ -280,40 +285,41 @@ module _ {M : Type 1} (𝓤 : URA M) (H : Heap 𝓤) (A : Atoms 𝓤) (W : Given
           }) (sliceVal (b-versions, o-versions) m-versions ∷ [])) $
           split ! $
           move ! (4 ∷ 0 ∷ []) $
-          use2 W (raw (EntryAt 𝓤 H A mem run .pre (to-entry-at 𝓤 H A W mem run versions (slotOf newest ((i .0)))
+          use2 W (raw (EntryNamed 𝓤 H A mem run .pre (to-entry-named 𝓤 H A W mem run versions (slotOf newest ((i .0)))
           b-versions o-versions m-versions κ-versions q-versions δ-versions)))
-          (entry-at-goes 𝓤 H A W mem run versions (slotOf newest ((i .0)))
-          b-versions o-versions m-versions κ-versions q-versions δ-versions (wider-w16 (s2 .1))) $
-          calls-at ! fm (EntryAt 𝓤 H A mem run) k-entry-at (to-entry-at 𝓤 H A W mem run versions (slotOf newest
-          ((i .0))) b-versions o-versions m-versions κ-versions q-versions δ-versions) (and-then ! (load ! (from !
-          (stop !)) (look ! 24 refl)) (and-then ! (load ! (from ! (stop !)) (look ! 6 refl)) (no-more !))) (λ u3.
-          use1 W (later (some (λ (x : Unit {0}). given (entry-at-said 𝓤 H A W mem run versions (slotOf newest ((i .0)))
-          b-versions o-versions m-versions κ-versions q-versions δ-versions u3 x)
-          (‵ (flft κ-versions q-versions))))) (entry-at-gives 𝓤 H A W mem run versions (slotOf newest ((i .0)))
+          (entry-named-goes 𝓤 H A W mem run versions (slotOf newest ((i .0)))
+          b-versions o-versions m-versions κ-versions q-versions δ-versions (s2 .1)) $
+          calls-at ! fm (EntryNamed 𝓤 H A mem run) k-entry-named (to-entry-named 𝓤 H A W mem run versions
+          (slotOf newest ((i .0))) b-versions o-versions m-versions κ-versions q-versions δ-versions) (and-then !
+          (load ! (from ! (stop !)) (look ! 24 refl)) (and-then ! (load ! (from ! (stop !)) (look ! 12 refl))
+          (no-more !))) (λ u3.
+          use1 W (later (some (λ (x : Unit {0}). given (entry-named-said 𝓤 H A W mem run versions (slotOf newest
+          ((i .0))) b-versions o-versions m-versions κ-versions q-versions δ-versions u3 x)
+          (‵ (flft κ-versions q-versions))))) (entry-named-gives 𝓤 H A W mem run versions (slotOf newest ((i .0)))
           b-versions o-versions m-versions κ-versions q-versions δ-versions u3) $ await ! tt $
           pick ! (λ x3. learn ! (λ s3.
-          land ! (from ! (stop !)) (init ! 10 refl (Value.typed T.the-type T′.the-laws 𝓤 H A W (entryOf versions
+          land ! (from ! (stop !)) (init ! 10 refl (Value.typed T.the-type T′.the-laws 𝓤 H A W (namedOf versions
           (slotOf newest ((i .0)))) u3 (s3))) $
           rewrite ! 10 (λ (z : Val). ‵ (fat fullShare (τ 8) l-8 0 z)) (s3 .0) refl $
           use0 W (raw (SoundOn 𝓤 H A mem run .pre (to-sound-on 𝓤 H A W mem run (soundBelow versions newest
-          (lesserOf bound m-versions) (i .0)) (slotOf newest ((i .0))) (entryOf versions (slotOf newest ((i .0))))
+          (lesserOf bound m-versions) (i .0)) (slotOf newest ((i .0))) (namedOf versions (slotOf newest ((i .0))))
           (lesserOf bound m-versions)))) (sound-on-goes 𝓤 H A W mem run (soundBelow versions newest
-          (lesserOf bound m-versions) (i .0)) (slotOf newest ((i .0))) (entryOf versions (slotOf newest ((i .0))))
+          (lesserOf bound m-versions) (i .0)) (slotOf newest ((i .0))) (namedOf versions (slotOf newest ((i .0))))
           (lesserOf bound m-versions) (s2 .1) (s3 .1) g-L4) $
           calls-at ! fm (SoundOn 𝓤 H A mem run) k-sound-on (to-sound-on 𝓤 H A W mem run (soundBelow versions newest
-          (lesserOf bound m-versions) (i .0)) (slotOf newest ((i .0))) (entryOf versions (slotOf newest ((i .0))))
+          (lesserOf bound m-versions) (i .0)) (slotOf newest ((i .0))) (namedOf versions (slotOf newest ((i .0))))
           (lesserOf bound m-versions)) (and-then ! (load ! (from ! (stop !)) (look ! 17 refl)) (and-then ! (load !
           (from ! (stop !)) (look ! 13 refl)) (and-then ! (load ! (from ! (stop !)) (look ! 11 refl)) (and-then !
           (load ! (from ! (stop !)) (look ! 19 refl)) (no-more !))))) (λ u4.
           use1 W (later (some (λ (x : Unit {0}). given (sound-on-said 𝓤 H A W mem run (soundBelow versions newest
-          (lesserOf bound m-versions) (i .0)) (slotOf newest ((i .0))) (entryOf versions (slotOf newest ((i .0))))
+          (lesserOf bound m-versions) (i .0)) (slotOf newest ((i .0))) (namedOf versions (slotOf newest ((i .0))))
           (lesserOf bound m-versions) u4 x) (raw (emp 𝓤))))) (sound-on-gives 𝓤 H A W mem run
           (soundBelow versions newest (lesserOf bound m-versions) (i .0)) (slotOf newest ((i .0)))
-          (entryOf versions (slotOf newest ((i .0)))) (lesserOf bound m-versions) u4) $ await ! tt $
+          (namedOf versions (slotOf newest ((i .0)))) (lesserOf bound m-versions) u4) $ await ! tt $
           pick ! (λ x4. learn ! (λ s4.
           drop ! $
           land ! (from ! (stop !)) (store ! 16 refl (bool-typed u4 (soundOn (soundBelow versions newest
-          (lesserOf bound m-versions) (i .0)) (slotOf newest ((i .0))) (entryOf versions (slotOf newest ((i .0))))
+          (lesserOf bound m-versions) (i .0)) (slotOf newest ((i .0))) (namedOf versions (slotOf newest ((i .0))))
           (lesserOf bound m-versions)) (s4))) $
           rewrite ! 16 (λ (z : Val). ‵ (fat fullShare (τ 5) l-5 0 z)) (s4) refl $
           assigns-last ! (bin ! (load ! (from ! (stop !)) (look ! 14 refl)) (lit ! tt) (record {
@@ -326,6 +332,9 @@ module _ {M : Type 1} (𝓤 : URA M) (H : Heap 𝓤) (A : Atoms 𝓤) (W : Given
           forget ! 4 refl $
           move ! (1 ∷ 0 ∷ 3 ∷ 2 ∷ 4 ∷ 5 ∷ 6 ∷ 7 ∷ 8 ∷ 9 ∷ 10 ∷ 11 ∷ 12 ∷ 13 ∷ 14 ∷ 15 ∷ 16 ∷ 17 ∷ 18 ∷ 19 ∷ 20 ∷ 21
           ∷ 22 ∷ 23 ∷ 24 ∷ 25 ∷ 26 ∷ 27 ∷ []) $
+          rewrite ! 16 (λ (h : Bool). ‵ (fat fullShare (τ 5) l-5 0 (vbool h))) (sound-named versions
+          (soundBelow versions newest (lesserOf bound m-versions) (i .0)) (slotOf newest (i .0))
+          (lesserOf bound m-versions)) refl $
           rewrite ! 16 (λ (k : ℕ). ‵ (fat fullShare (τ 5) l-5 0 (vbool (soundBelow versions newest
           (lesserOf bound m-versions) k)))) (sym (add-one (i .0))) refl $
           again ! Nearer At i (next less) (add-one-dec n (i .0) (ltb→lt (i .0) n less))))))))))))
@@ -442,10 +451,10 @@ module _ {M : Type 1} (𝓤 : URA M) (H : Heap 𝓤) (A : Atoms 𝓤) (W : Given
 module _ {M : Type 1} (𝓤 : URA M) (H : Heap 𝓤) (A : Atoms 𝓤) (W : Given 𝓤 H A) (mem : Memory
     → SProp 𝓤) (run : Routine → Fun 𝓤) where
   own-walks : (𝓣 : Tables 𝓤 H) → Triple 𝓤 (𝓣 .C #lesser) (Lesser 𝓤 H A mem run)
-      → Triple 𝓤 (𝓣 .C #slot-at) (SlotAt 𝓤 H A mem run) → Triple 𝓤 (𝓣 .C #entry-at) (EntryAt 𝓤 H A mem run)
+      → Triple 𝓤 (𝓣 .C #slot-at) (SlotAt 𝓤 H A mem run) → Triple 𝓤 (𝓣 .C #entry-named) (EntryNamed 𝓤 H A mem run)
       → Triple 𝓤 (𝓣 .C #sound-on) (SoundOn 𝓤 H A mem run) → Walks 𝓤 H A own.ended stayed (WpFn 𝓤 H (𝓣 .C) (𝓣 .Λ)
       code.function) (own.clauses 𝓤 H A mem run)
-  own-walks 𝓣 k-lesser k-slot-at k-entry-at k-sound-on =
+  own-walks 𝓣 k-lesser k-slot-at k-entry-named k-sound-on =
       walked 𝓤 H A own.ended stayed (own.clauses 𝓤 H A mem run) (WpFn 𝓤 H (𝓣 .C) (𝓣 .Λ) code.function) (λ κs.
       (slice-vals, (slice-vals, (uint-vals w64, tt)))) (λ κs. (
         shr-slice-tells (named 0) (κs .0) T.the-row,
@@ -456,14 +465,14 @@ module _ {M : Type 1} (𝓤 : URA M) (H : Heap 𝓤) (A : Atoms 𝓤) (W : Given
       )) (λ κs qs bounds a g are. via 𝓤 _ (fst∗ 𝓤 _ (emp 𝓤)) (walk 𝓤 H A W mem run (κs .0)
       (κs .1 .0) bounds (qs .0) (qs .1 .0) (a .0 .ptr .0) (a .0 .ptr .1) (a .0 .name) (a .0 .now)
       (a .1 .0 .ptr .0) (a .1 .0 .ptr .1) (a .1 .0 .name) (a .1 .0 .now) (a .1 .1 .0) (are .0 .0 .1)
-      (are .1 .0 .0 .1) (are .1 .1 .0 .1) 𝓣 k-lesser k-slot-at k-entry-at k-sound-on))
+      (are .1 .0 .0 .1) (are .1 .1 .0 .1) 𝓣 k-lesser k-slot-at k-entry-named k-sound-on))
 
 own-meets : {M : Type 1} (𝓤 : URA M) (H : Heap 𝓤) (A : Atoms 𝓤) → Given 𝓤 H A → (mem : Memory
     → SProp 𝓤) (run : Routine → Fun 𝓤) (𝓣 : Tables 𝓤 H) → Triple 𝓤 (𝓣 .C #lesser) (Lesser 𝓤 H A mem run)
-    → Triple 𝓤 (𝓣 .C #slot-at) (SlotAt 𝓤 H A mem run) → Triple 𝓤 (𝓣 .C #entry-at) (EntryAt 𝓤 H A mem run)
+    → Triple 𝓤 (𝓣 .C #slot-at) (SlotAt 𝓤 H A mem run) → Triple 𝓤 (𝓣 .C #entry-named) (EntryNamed 𝓤 H A mem run)
     → Triple 𝓤 (𝓣 .C #sound-on) (SoundOn 𝓤 H A mem run) → Meets 𝓤 H A own.signature (WpFn 𝓤 H (𝓣 .C) (𝓣 .Λ)
     code.function) (own.spec 𝓤 H A mem run)
-own-meets 𝓤 H A W mem run 𝓣 k-lesser k-slot-at k-entry-at k-sound-on =
+own-meets 𝓤 H A W mem run 𝓣 k-lesser k-slot-at k-entry-named k-sound-on =
     walk-meets 𝓤 H A own.ended stayed W (
       goes-none-slice 𝓤 H A W 2 (0 ∷ []) tt (plain (λ _.
           T.the-row)) yes,
@@ -476,7 +485,8 @@ own-meets 𝓤 H A W mem run 𝓣 k-lesser k-slot-at k-entry-at k-sound-on =
         ),
       ),
     ) (own.clauses 𝓤 H A mem run) (WpFn 𝓤 H (𝓣 .C) (𝓣 .Λ) code.function)
-    (WpFn-mono 𝓤 H (W .laws) 𝓣 code.function) (own-walks 𝓤 H A W mem run 𝓣 k-lesser k-slot-at k-entry-at k-sound-on)
+    (WpFn-mono 𝓤 H (W .laws) 𝓣 code.function) (own-walks 𝓤 H A W mem run 𝓣 k-lesser k-slot-at k-entry-named
+    k-sound-on)
 
 pub newest-sound-spec : {M : Type 1} → stated.statement M
 unfolding code.routine tablesOf
@@ -488,7 +498,7 @@ newest-sound-spec 𝓤 H 𝓜 𝓖 𝓡 =
     𝓜 𝓡 code.env #lesser lesser-def.routine code.calls-versions·table·lesser (lesser-thm.met 𝓤 H 𝓜 𝓖 𝓡))
     (cited 𝓤 H (SlotAt 𝓤 H (𝓖 .A) (𝓜 .mem) (𝓡 .run)) 𝓜 𝓡 code.env #slot-at slot-at-def.routine
     code.calls-versions·seal·slot-at (slot-at-thm.met 𝓤 H 𝓜 𝓖 𝓡))
-    (cited 𝓤 H (EntryAt 𝓤 H (𝓖 .A) (𝓜 .mem) (𝓡 .run)) 𝓜 𝓡 code.env #entry-at entry-at-def.routine
-    code.calls-versions·table·entry-at (entry-at-thm.met 𝓤 H 𝓜 𝓖 𝓡))
+    (cited 𝓤 H (EntryNamed 𝓤 H (𝓖 .A) (𝓜 .mem) (𝓡 .run)) 𝓜 𝓡 code.env #entry-named entry-named-def.routine
+    code.calls-versions·seal·entry-named (entry-named-thm.met 𝓤 H 𝓜 𝓖 𝓡))
     (cited 𝓤 H (SoundOn 𝓤 H (𝓖 .A) (𝓜 .mem) (𝓡 .run)) 𝓜 𝓡 code.env #sound-on sound-on-def.routine
     code.calls-versions·seal·sound-on (sound-on-thm.met 𝓤 H 𝓜 𝓖 𝓡)))
