@@ -7,10 +7,9 @@ use lib.ListN.{getD}
 use lib.Dec.{ltb}
 use Rattle.packed.specs.declared.Transaction.{Transaction}
 use Rattle.counters.specs.Actions.{After, goesOn, aborts, actAll, actionsOf}
-use Rattle.counters.specs.Working.{setsOf, memoryOf, startOf}
+use Rattle.counters.specs.Working.{WorkingCopy, setsOf, memoryOf, startOf}
 use Rattle.counters.specs.declared.Decision.{Decision}
 use Rattle.counters.specs.declared.Outcome.the-variants.{Committed, Aborted}
-use Rattle.counters.specs.declared.working.WorkingCopy.{WorkingCopy}
 
 -- the actions on the values read
 unfoldable pub workedOf : Transaction → List ℕ → After WorkingCopy

@@ -31,9 +31,8 @@ use Rattle.counters.specs.OneByOne.{
   oneByOne,
 }
 use Rattle.counters.specs.Storing.{stored, inFour, decisionOn, decidedRun}
-use Rattle.counters.specs.Working.{setsOf, writePlace}
+use Rattle.counters.specs.Working.{WorkingCopy, setsOf, writePlace}
 use Rattle.counters.specs.declared.Decision.{Decision}
-use Rattle.counters.specs.declared.working.WorkingCopy.{WorkingCopy}
 
 -- a decision does to the records what the one-by-one run does with the transaction
 pub record OneStep (t : Transaction) (records : List ℕ) (decision : Decision) : Type 0 where

@@ -15,10 +15,9 @@ use Rattle.counters.specs.Actions.{After, goesOn, aborts, actionsOf}
 use Rattle.counters.specs.Deciding.{workedOf, unreached, decisionOf, decideOf}
 use Rattle.counters.specs.LawsPlaces.{at-place, none-at, true-is-not-false}
 use Rattle.counters.specs.LawsRelated.{all-keep, SideBySide, RelatedAfter, all-related}
-use Rattle.counters.specs.Working.{setsOf, writePlace, contentsIn, written, memoryOf, startOf}
+use Rattle.counters.specs.Working.{WorkingCopy, setsOf, writePlace, contentsIn, written, memoryOf, startOf}
 use Rattle.counters.specs.declared.Decision.{Decision}
 use Rattle.counters.specs.declared.Outcome.the-variants.{Aborted}
-use Rattle.counters.specs.declared.working.WorkingCopy.{WorkingCopy}
 
 -- the marks, one by one
 unreached-at : (writecount : ℕ) (reached : List Bool) (j : ℕ) → j < 4

@@ -19,8 +19,8 @@ use Rattle.counters.specs.Declarations.{Declared}
 use Rattle.counters.specs.LawsPlaces.{at-place, listed-place, one-at-place, none-at}
 use Rattle.counters.specs.LawsRelated.{each-passes, Keeps, keep-within, SideBySide, RelatedAfter, all-related}
 use Rattle.counters.specs.OneByOne.{recordsMemory, changedCopy}
-use Rattle.counters.specs.Working.{setsOf, readPlace, writePlace, contentsIn, written, memoryOf, startOf}
-use Rattle.counters.specs.declared.working.WorkingCopy.{WorkingCopy}
+use Rattle.counters.specs.Working.{WorkingCopy, setsOf, readPlace, writePlace}
+use Rattle.counters.specs.Working.{contentsIn, written, memoryOf, startOf}
 
 -- a transaction on records that hold `start` before it
 module _ (t : Transaction) (start : List ℕ) where

@@ -12,8 +12,8 @@ use Rattle.counters.specs.Actions.{After, goesOn, aborts, actionsOf}
 use Rattle.counters.specs.Deciding.{workedOf, decisionOf, decideOf}
 use Rattle.counters.specs.LawsPlaces.{at-place}
 use Rattle.counters.specs.LawsRelated.{all-keep, SideBySide, RelatedAfter, all-related}
-use Rattle.counters.specs.Working.{setsOf, readPlace, writePlace, contentsIn, written, memoryOf, startOf}
-use Rattle.counters.specs.declared.working.WorkingCopy.{WorkingCopy}
+use Rattle.counters.specs.Working.{WorkingCopy, setsOf, readPlace, writePlace}
+use Rattle.counters.specs.Working.{contentsIn, written, memoryOf, startOf}
 
 module _ (t : Transaction) where
   abbrev readAt : ℕ → ℕ

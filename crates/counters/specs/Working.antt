@@ -7,7 +7,13 @@ use lib.Dec.{ltb, eqb}
 use Rattle.packed.specs.declared.Transaction.{Transaction}
 use Rattle.counters.specs.Actions.{Memory}
 use Rattle.counters.specs.declared.working.Sets.{Sets}
-use Rattle.counters.specs.declared.working.WorkingCopy.{WorkingCopy}
+
+-- the transaction's own copy: of each declared read what it holds now; of each declared write the new contents and
+-- whether an action reached it
+pub record WorkingCopy : Type 0 where
+  pub values : List ℕ
+  pub contents : List ℕ
+  pub reached : List Bool
 
 -- a record stands at a place of a set, within the count
 abbrev pub standsAt : List ℕ → ℕ → ℕ → ℕ → Bool

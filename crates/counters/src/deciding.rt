@@ -1,10 +1,10 @@
 // "Deciding runs the actions on the values read, choosing outcome, new contents (0 for a carried write until its carry)
 // and carries."
 ghost use mathlib.Core.Path.{_≡_};
-ghost use Rattle.counters.specs.Actions.{goesOn, aborts, act};
-ghost use Rattle.counters.specs.Deciding.{workedOf, unreached, decideOf};
-ghost use Rattle.counters.specs.LawsActions.{attempted, thenWithin};
-ghost use Rattle.counters.specs.Working.{memoryOf};
+ghost use Rattle.counters.specs.Actions.{goesOn, act, actAll, actionsOf};
+ghost use Rattle.counters.specs.Deciding.{unreached, decideOf};
+ghost use Rattle.counters.specs.LawsActions.{copyOf, attempted, atMostFour};
+ghost use Rattle.counters.specs.Working.{setsOf, memoryOf};
 use crate::Decision;
 use crate::Outcome;
 use crate::working;
@@ -12,86 +12,72 @@ use packed::Action;
 use packed::ActionRow;
 use packed::Transaction;
 use working::Sets;
-use working::WorkingCopy;
 
-// The working copy after some actions; or one of them aborted, and nothing is kept.
-pub struct Attempt {
-    pub aborted: bool,
-    pub copy: WorkingCopy,
-}
-
-fn goes_on(copy: WorkingCopy) -> Attempt
-    ensures { λ r. ⌜ attempted r ≡ goesOn copy ⌝ }
-{
-    Attempt {
-        aborted: false,
-        copy,
-    }
-}
-
-fn aborts(copy: WorkingCopy) -> Attempt
-    ensures { λ r. ⌜ attempted r ≡ aborts ⌝ }
-{
-    Attempt {
-        aborted: true,
-        copy,
-    }
-}
-
-// What an action does, by the table of kinds.
-fn one_action(sets: Sets, row: ActionRow, copy: WorkingCopy) -> Attempt
-    ensures { λ r. ⌜ attempted r ≡ act (memoryOf sets) (row .action) copy ⌝ }
+// What an action does, by the table of kinds, and whether it aborts.
+fn one_action(
+    sets: Sets,
+    row: ActionRow,
+    values: &mut [u64],
+    contents: &mut [u64],
+    reached: &mut [bool],
+) -> bool
+    ensures { λ r. ⌜ attempted r (copyOf (now (values .exit)) (now (contents .exit)) (now (reached .exit)))
+        ≡ act (memoryOf sets) (row .action)
+        (copyOf (now (values .entry)) (now (contents .entry)) (now (reached .entry))) ⌝ }
 {
     let action = row.action;
     match action {
-        Action::Nothing => goes_on(copy),
-        Action::Set { r, c } => goes_on(working::write(sets, copy, r, c)),
+        Action::Nothing => false,
+        Action::Set { r, c } => {
+            working::write(sets, values, contents, reached, r, c);
+            false
+        }
         Action::Add { r, c } => {
-            let sum = std::num::wrapping_add_u64(working::contents_in(sets, copy, r), c);
-            goes_on(working::write(sets, copy, r, sum))
+            let sum = std::num::wrapping_add_u64(working::contents_in(sets, values, r), c);
+            working::write(sets, values, contents, reached, r, sum);
+            false
         }
         Action::Take { r, c } => {
-            let held = working::contents_in(sets, copy, r);
+            let held = working::contents_in(sets, values, r);
             if held < c {
-                aborts(copy)
-            } else {
-                goes_on(working::write(sets, copy, r, held - c))
+                return true;
             }
+            working::write(sets, values, contents, reached, r, held - c);
+            false
         }
         Action::Copy { r, s } => {
-            let held = working::contents_in(sets, copy, s);
-            goes_on(working::write(sets, copy, r, held))
+            let held = working::contents_in(sets, values, s);
+            working::write(sets, values, contents, reached, r, held);
+            false
         }
         Action::Move { r, s } => {
-            let target = working::contents_in(sets, copy, r);
-            let source = working::contents_in(sets, copy, s);
+            let target = working::contents_in(sets, values, r);
+            let source = working::contents_in(sets, values, s);
             let sum = std::num::wrapping_add_u64(target, source);
-            goes_on(working::write(sets, working::write(sets, copy, r, sum), s, 0))
+            working::write(sets, values, contents, reached, r, sum);
+            working::write(sets, values, contents, reached, s, 0);
+            false
         }
-        Action::Floor { r, c } => {
-            if working::contents_in(sets, copy, r) < c {
-                aborts(copy)
-            } else {
-                goes_on(copy)
-            }
-        }
+        Action::Floor { r, c } => working::contents_in(sets, values, r) < c,
     }
 }
 
-// One action more: none past the count, and none after an abort.
-fn next_action(sets: Sets, row: ActionRow, within: bool, earlier: Attempt) -> Attempt
-    ensures { λ r. ⌜ attempted r ≡ thenWithin (memoryOf sets) within (row .action) (attempted earlier) ⌝ }
+fn at_most_four(count: u8) -> usize
+    ensures { λ r. ⌜ r ≡ atMostFour count ⌝ }
 {
-    if within & !earlier.aborted {
-        one_action(sets, row, earlier.copy)
-    } else {
-        earlier
-    }
+    if count < 4 { count as usize } else { 4 }
 }
 
-// The actions within the count, in order, on the values read.
-fn all_actions(meaning: Transaction, values: [u64; 4]) -> Attempt
-    ensures { λ r. ⌜ attempted r ≡ workedOf meaning values ⌝ }
+// The actions within the count, in order; and whether one of them aborts: none is run after it, and nothing is kept.
+fn all_actions(
+    meaning: Transaction,
+    values: &mut [u64],
+    contents: &mut [u64],
+    reached: &mut [bool],
+) -> bool
+    ensures { λ r. ⌜ attempted r (copyOf (now (values .exit)) (now (contents .exit)) (now (reached .exit)))
+        ≡ actAll (memoryOf (setsOf meaning)) (actionsOf meaning)
+        (goesOn (copyOf (now (values .entry)) (now (contents .entry)) (now (reached .entry)))) ⌝ }
 {
     let reads = meaning.reads;
     let writes = meaning.writes;
@@ -101,18 +87,16 @@ fn all_actions(meaning: Transaction, values: [u64; 4]) -> Attempt
         reads,
         writes,
     };
-    let start = WorkingCopy {
-        values,
-        contents: [0; 4],
-        reached: [false; 4],
-    };
     let actions = meaning.actions;
-    let count = meaning.actioncount;
-    let before = goes_on(start);
-    let first = next_action(sets, actions[0], 0 < count, before);
-    let second = next_action(sets, actions[1], 1 < count, first);
-    let third = next_action(sets, actions[2], 2 < count, second);
-    next_action(sets, actions[3], 3 < count, third)
+    let count = at_most_four(meaning.actioncount);
+    let mut k: usize = 0;
+    while k < count {
+        if one_action(sets, actions[k], values, contents, reached) {
+            return true;
+        }
+        k += 1;
+    }
+    false
 }
 
 // The declared writes that no action reached.
@@ -131,8 +115,10 @@ fn unreached(writecount: u8, reached: [bool; 4]) -> [bool; 4]
 pub fn decide(meaning: Transaction, values: [u64; 4]) -> Decision
     ensures { λ r. ⌜ r ≡ decideOf meaning values ⌝ }
 {
-    let end = all_actions(meaning, values);
-    if end.aborted {
+    let mut held = values;
+    let mut contents: [u64; 4] = [0; 4];
+    let mut reached: [bool; 4] = [false; 4];
+    if all_actions(meaning, &mut held, &mut contents, &mut reached) {
         let carried = unreached(meaning.writecount, [false; 4]);
         return Decision {
             outcome: Outcome::Aborted,
@@ -140,9 +126,6 @@ pub fn decide(meaning: Transaction, values: [u64; 4]) -> Decision
             carried,
         };
     }
-    let copy = end.copy;
-    let contents = copy.contents;
-    let reached = copy.reached;
     let carried = unreached(meaning.writecount, reached);
     Decision {
         outcome: Outcome::Committed,

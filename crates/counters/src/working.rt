@@ -1,8 +1,11 @@
-// The memory that a transaction's actions work on while it is decided.
+// The memory that a transaction's actions work on while it is decided: of each declared read what it holds now, of each
+// declared write the new contents and whether an action reached it. The actions change these in place, since a copy for
+// each action costs more than the action.
 ghost use mathlib.Core.Bool.{true};
 ghost use mathlib.Core.Path.{_≡_};
 ghost use lib.ListN.{getD, set};
-ghost use Rattle.counters.specs.Working.{placeIn, contentsIn, written};
+ghost use Rattle.counters.specs.Working.{placeIn, readPlace, written};
+ghost use Rattle.counters.specs.LawsActions.{copyOf};
 
 // What a transaction declares.
 pub struct Sets {
@@ -10,14 +13,6 @@ pub struct Sets {
     pub writecount: u8,
     pub reads: [u16; 4],
     pub writes: [u16; 4],
-}
-
-// The transaction's own copy: of each declared read what it holds now; of each declared write the new contents and
-// whether an action reached it.
-pub struct WorkingCopy {
-    pub values: [u64; 4],
-    pub contents: [u64; 4],
-    pub reached: [bool; 4],
 }
 
 // The place of a record among the first `count` of a set, and 4 where it is none of them.
@@ -39,56 +34,57 @@ fn place_in(set: [u16; 4], count: u8, number: u16) -> usize
     4
 }
 
-fn number_at(numbers: [u64; 4], place: usize) -> u64
-    ensures { λ r. ⌜ r ≡ getD numbers place 0 ⌝ }
+fn number_at(numbers: &[u64], place: usize) -> u64
+    ensures { λ r. ⌜ r ≡ getD (now (numbers .entry)) place 0 ⌝ }
 {
-    if place < 4 { numbers[place] } else { 0 }
+    if place < numbers.len() {
+        numbers[place]
+    } else {
+        0
+    }
 }
 
-fn with_number(mut numbers: [u64; 4], place: usize, number: u64) -> [u64; 4]
-    ensures { λ r. ⌜ r ≡ set numbers place number ⌝ }
+fn put_number(numbers: &mut [u64], place: usize, number: u64)
+    ensures { λ _. ⌜ now (numbers .exit) ≡ set (now (numbers .entry)) place number ⌝ }
 {
-    if place < 4 {
+    if place < numbers.len() {
         numbers[place] = number;
     }
-    numbers
 }
 
-fn with_mark(mut marks: [bool; 4], place: usize) -> [bool; 4]
-    ensures { λ r. ⌜ r ≡ set marks place true ⌝ }
+fn put_mark(marks: &mut [bool], place: usize)
+    ensures { λ _. ⌜ now (marks .exit) ≡ set (now (marks .entry)) place true ⌝ }
 {
-    if place < 4 {
+    if place < marks.len() {
         marks[place] = true;
     }
-    marks
 }
 
 // What a record holds.
-pub(crate) fn contents_in(sets: Sets, copy: WorkingCopy, number: u16) -> u64
-    ensures { λ r. ⌜ r ≡ contentsIn sets copy number ⌝ }
+pub(crate) fn contents_in(sets: Sets, values: &[u64], number: u16) -> u64
+    ensures { λ r. ⌜ r ≡ getD (now (values .entry)) (readPlace sets number) 0 ⌝ }
 {
     let reads = sets.reads;
-    let values = copy.values;
     number_at(values, place_in(reads, sets.readcount, number))
 }
 
-// The copy after a record becomes `value`.
-pub(crate) fn write(sets: Sets, copy: WorkingCopy, number: u16, value: u64) -> WorkingCopy
-    ensures { λ r. ⌜ r ≡ written sets copy number value ⌝ }
+// A record becomes `value`.
+pub(crate) fn write(
+    sets: Sets,
+    values: &mut [u64],
+    contents: &mut [u64],
+    reached: &mut [bool],
+    number: u16,
+    value: u64,
+)
+    ensures { λ _. ⌜ copyOf (now (values .exit)) (now (contents .exit)) (now (reached .exit))
+        ≡ written sets (copyOf (now (values .entry)) (now (contents .entry)) (now (reached .entry))) number value ⌝ }
 {
     let reads = sets.reads;
     let writes = sets.writes;
     let read = place_in(reads, sets.readcount, number);
     let write = place_in(writes, sets.writecount, number);
-    let old_values = copy.values;
-    let old_contents = copy.contents;
-    let old_reached = copy.reached;
-    let values = with_number(old_values, read, value);
-    let contents = with_number(old_contents, write, value);
-    let reached = with_mark(old_reached, write);
-    WorkingCopy {
-        values,
-        contents,
-        reached,
-    }
+    put_number(values, read, value);
+    put_number(contents, write, value);
+    put_mark(reached, write);
 }

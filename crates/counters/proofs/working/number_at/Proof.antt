@@ -1,5 +1,6 @@
-use mathlib.Core.Path.{_≡_, sym}
-use lib.ListN.{length, List·getD-eq-default}
+use mathlib.Core.Path.{sym}
+use lib.ListN.{List·getD-eq-default}
+use denote.Ref.{now}
 use native.Mathlib.Omega.{arith}
 use borrow.Author.Needs.{needs}
 use Rattle.counters.proofs.working.number_at.Statement.{statement}
@@ -7,23 +8,21 @@ use Rattle.counters.proofs.working.number_at.Tie as tie
 use Rattle.counters.proofs.working.number_at.Reads as reads
 use Rattle.counters.proofs.working.number_at.Lts as lts
 
--- src/working.rt:45:20
+-- src/working.rt:40:32
 mul-result : tie.Need-mul-result
 mul-result c = search needs
 
--- src/working.rt:45:20
-array-read-result : tie.Need-array-read-result
-array-read-result c = search needs
+-- src/working.rt:40:32
+shared-slice-read-result : tie.Need-shared-slice-read-result
+shared-slice-read-result c = search needs
 
--- src/working.rt:42:1
+-- src/working.rt:37:1
 returns : tie.Need-returns
 returns c = search needs
 
--- src/working.rt:42:1
+-- src/working.rt:37:1
 returns-2 : tie.Need-returns-2
-returns-2 c =
-    let four : length (c .before .args .t1) ≡ 4 = search needs in
-    sym (List·getD-eq-default (c .before .args .t1) 0 (omega arith))
+returns-2 c = sym (List·getD-eq-default (now (c .before .args .numbers)) 0 (omega arith))
 
 pub number-at-spec : {M : Type 1} → statement M
-number-at-spec = tie.close (tie.spec mul-result array-read-result returns returns-2)
+number-at-spec = tie.close (tie.spec mul-result shared-slice-read-result returns returns-2)
