@@ -1,7 +1,8 @@
 -- Laws of the six kinds.
-use Prim.Native.Nat.{ℕ, zero, suc}
+use Prim.Native.Nat.{ℕ, zero, suc, _<_}
 use mathlib.Core.Path.{_≡_, refl}
 use mathlib.Core.List.{List, [], _∷_}
+use native.Mathlib.Omega.{arith}
 use Rattle.packed.specs.Kinds.{byKind, line, usesOf}
 use Rattle.packed.specs.declared.fields.Fields.{Fields}
 
@@ -12,6 +13,16 @@ Not kind number = kind ≡ number → ⊥
 abbrev pub Other : ℕ → Type 0
 Other kind =
     (((((Unit {0} × Not kind 1) × Not kind 2) × Not kind 3) × Not kind 4) × Not kind 5) × Not kind 6
+
+pub above-six : (kind : ℕ) → 6 < kind → Other kind
+above-six kind above =
+    let none-of : (number : ℕ) → number < 7 → Not kind number = λ number small same. omega arith in (
+      (
+        ((((tt, none-of 1 (omega arith)), none-of 2 (omega arith)), none-of 3 (omega arith)), none-of 4 (omega arith)),
+        none-of 5 (omega arith),
+      ),
+      none-of 6 (omega arith),
+    )
 
 pub other-kind : {A : Type 0} (none set add take copy move floor : A) (kind : ℕ) → Other kind
     → byKind none set add take copy move floor kind ≡ none

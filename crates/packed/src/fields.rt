@@ -19,7 +19,7 @@ fn word_at(b: &[u8], at: usize) -> u16
     little::word([b[at], b[at + 1]])
 }
 
-fn long_at(b: &[u8], at: usize) -> u64
+pub(crate) fn long_at(b: &[u8], at: usize) -> u64
     requires { ⌜ at + 8 ≤ length (now b) ⌝ }
     ensures { λ r. ⌜ r ≡ longAt (now (b .entry)) at ⌝ }
 {

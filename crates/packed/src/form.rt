@@ -1,12 +1,13 @@
-// Refusal 4: "a count above 4, a kind outside 1–6 within the count, or a byte that must be zero is not".
+// Refusal 4: "a count above 4, a kind outside 1–6 within the count, or a byte that must be zero is not". Eight bytes
+// are looked at as one number: the bytes from some place on are zero where the number is below a power of 256.
 ghost use mathlib.Core.Path.{_≡_};
 ghost use Prim.Native.Nat.{_+_, _≤_};
 ghost use lib.ListN.{length};
-ghost use Rattle.packed.specs.Kinds.{usesOf};
-ghost use Rattle.packed.specs.Form.{countAbove, kindOutside, kindsOutside, malformed};
-ghost use Rattle.packed.specs.Form.{pastSet, wholly, actionNonzero, nonzero};
+ghost use Rattle.packed.specs.Fields.{setAt};
+ghost use Rattle.packed.specs.Form.{countAbove, pastSet, malformed};
+ghost use Rattle.packed.specs.LawsActions.{withinMalformed, actionMalformed, actionsMalformed};
+ghost use Rattle.packed.specs.LawsPast.{restNonzero};
 use crate::fields;
-use fields::Fields;
 
 fn count_above(b: &[u8]) -> bool
     requires { ⌜ length (now b) ≡ 88 ⌝ }
@@ -15,88 +16,75 @@ fn count_above(b: &[u8]) -> bool
     (4 < b[0]) | (4 < b[1]) | (4 < b[2])
 }
 
-fn kind_outside(kind: u8) -> bool
-    ensures { λ r. ⌜ r ≡ kindOutside kind ⌝ }
+// An entry of the set at `at` is past its count and not zero.
+fn past_set(b: &[u8], at: usize, count: u8) -> bool
+    requires { ⌜ at + 8 ≤ length (now b) ⌝ }
+    ensures { λ r. ⌜ r ≡ pastSet (setAt (now (b .entry)) at) count ⌝ }
 {
-    (kind < 1) | (6 < kind)
+    let set = fields::long_at(b, at);
+    match count {
+        0 => set != 0,
+        1 => 65536 <= set,
+        2 => 4294967296 <= set,
+        3 => 281474976710656 <= set,
+        _ => false,
+    }
 }
 
-// "a kind outside 1–6 within the count"
-fn kinds_outside(b: &[u8]) -> bool
+// One of the bytes 20 to 23 is not zero.
+fn rest_nonzero(b: &[u8]) -> bool
     requires { ⌜ length (now b) ≡ 88 ⌝ }
-    ensures { λ r. ⌜ r ≡ kindsOutside (now (b .entry)) ⌝ }
+    ensures { λ r. ⌜ r ≡ restNonzero (now (b .entry)) ⌝ }
 {
-    let count = b[2];
-    ((0 < count) & kind_outside(b[24]))
-        | ((1 < count) & kind_outside(b[40]))
-        | ((2 < count) & kind_outside(b[56]))
-        | ((3 < count) & kind_outside(b[72]))
+    4294967296 <= fields::long_at(b, 16)
 }
 
-// An entry of a set past its count is not zero.
-fn past_set(set: [u16; 4], count: u8) -> bool
-    ensures { λ r. ⌜ r ≡ pastSet set count ⌝ }
+// An action within the count; `head` is the number in its first eight bytes, which are "kind (1), zero (1),
+// record r (2), record s (2), zero (2)".
+fn within_malformed(head: u64, c: u64) -> bool
+    ensures { λ r. ⌜ r ≡ withinMalformed head c ⌝ }
 {
-    ((count <= 0) & (set[0] != 0))
-        | ((count <= 1) & (set[1] != 0))
-        | ((count <= 2) & (set[2] != 0))
-        | ((count <= 3) & (set[3] != 0))
-}
-
-// The field that must hold zero.
-fn zero_field(x: Fields) -> u64
-    ensures { λ r. ⌜ r ≡ usesOf x .zero ⌝ }
-{
-    let kind = x.kind;
-    let s = x.s as u64;
+    let kind = head % 65536;
     match kind {
-        1 => s,
-        2 => s,
-        3 => s,
-        4 => x.c,
-        5 => x.c,
-        6 => s,
-        _ => 0,
+        1 => 4294967296 <= head,
+        2 => 4294967296 <= head,
+        3 => 4294967296 <= head,
+        4 => (281474976710656 <= head) | (c != 0),
+        5 => (281474976710656 <= head) | (c != 0),
+        6 => 4294967296 <= head,
+        _ => true,
     }
 }
 
-fn wholly_zero(x: Fields) -> bool
-    ensures { λ r. ⌜ r ≡ wholly x ⌝ }
-{
-    (x.kind == 0) & (x.r == 0) & (x.s == 0) & (x.c == 0)
-}
-
-// A byte of the action at `at` that must be zero is not.
-fn action_nonzero(b: &[u8], at: usize, within: bool) -> bool
+// The action at `at` has a kind outside 1–6 within the count, or a byte that must be zero and is not.
+fn action_malformed(b: &[u8], at: usize, within: bool) -> bool
     requires { ⌜ at + 16 ≤ length (now b) ⌝ }
-    ensures { λ r. ⌜ r ≡ actionNonzero (now (b .entry)) at within ⌝ }
+    ensures { λ r. ⌜ r ≡ actionMalformed (now (b .entry)) at within ⌝ }
 {
-    let x = fields::fields_at(b, at);
-    let set = (b[at + 1] != 0) | (b[at + 6] != 0) | (b[at + 7] != 0);
+    let head = fields::long_at(b, at);
+    let c = fields::long_at(b, at + 8);
     if within {
-        set | (zero_field(x) != 0)
+        within_malformed(head, c)
     } else {
-        set | !wholly_zero(x)
+        (head != 0) | (c != 0)
     }
 }
 
-// "a byte that must be zero is not"
-fn nonzero_byte(b: &[u8]) -> bool
+fn actions_malformed(b: &[u8]) -> bool
     requires { ⌜ length (now b) ≡ 88 ⌝ }
-    ensures { λ r. ⌜ r ≡ nonzero (now (b .entry)) ⌝ }
+    ensures { λ r. ⌜ r ≡ actionsMalformed (now (b .entry)) ⌝ }
 {
     let count = b[2];
-    (b[3] != 0)
-        | past_set(fields::set_at(b, 4), b[0])
-        | past_set(fields::set_at(b, 12), b[1])
-        | (b[20] != 0)
-        | (b[21] != 0)
-        | (b[22] != 0)
-        | (b[23] != 0)
-        | action_nonzero(b, 24, 0 < count)
-        | action_nonzero(b, 40, 1 < count)
-        | action_nonzero(b, 56, 2 < count)
-        | action_nonzero(b, 72, 3 < count)
+    if action_malformed(b, 24, 0 < count) {
+        return true;
+    }
+    if action_malformed(b, 40, 1 < count) {
+        return true;
+    }
+    if action_malformed(b, 56, 2 < count) {
+        return true;
+    }
+    action_malformed(b, 72, 3 < count)
 }
 
 pub(crate) fn is_malformed(b: &[u8]) -> bool
@@ -106,8 +94,14 @@ pub(crate) fn is_malformed(b: &[u8]) -> bool
     if count_above(b) {
         return true;
     }
-    if kinds_outside(b) {
+    if (b[3] != 0) | rest_nonzero(b) {
         return true;
     }
-    nonzero_byte(b)
+    if past_set(b, 4, b[0]) {
+        return true;
+    }
+    if past_set(b, 12, b[1]) {
+        return true;
+    }
+    actions_malformed(b)
 }

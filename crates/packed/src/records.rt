@@ -5,7 +5,7 @@ ghost use Prim.Native.Nat.{_≤_};
 ghost use lib.ListN.{length};
 ghost use Rattle.packed.specs.Fields.{byteAt};
 ghost use Rattle.packed.specs.Records.{someAction, tooLarge, setTooLarge, usesTooLarge, noSuchRecord};
-ghost use Rattle.packed.specs.Records.{descends, notAscending};
+ghost use Rattle.packed.specs.LawsSets.{setProper, setsProper};
 ghost use Rattle.packed.specs.Records.{unlisted, readsUnlisted, undeclaredRead, writesUnlisted, undeclaredWrite};
 use crate::fields;
 use fields::Fields;
@@ -54,7 +54,7 @@ fn uses_too_large(x: Fields, n: usize) -> bool
 }
 
 // An action within the count uses a record that is N or more.
-fn action_too_large(b: &[u8], n: usize) -> bool
+pub(crate) fn action_too_large(b: &[u8], n: usize) -> bool
     requires { ⌜ (length (now b) ≡ 88) × (byteAt (now b) 2 ≤ 4) ⌝ }
     ensures { λ r. ⌜ r ≡ someAction (usesTooLarge n) (now (b .entry)) ⌝ }
 {
@@ -83,30 +83,45 @@ pub(crate) fn has_no_such_record(b: &[u8], n: usize) -> bool
     action_too_large(b, n)
 }
 
-fn set_descends(set: [u16; 4], count: u8) -> bool
-    ensures { λ r. ⌜ r ≡ descends set count ⌝ }
+// The set ascends strictly to a last record below n, so that neither 5 nor 6 is met in it.
+fn set_proper(set: [u16; 4], count: u8, n: usize) -> bool
+    ensures { λ r. ⌜ r ≡ setProper n set count ⌝ }
 {
-    ((1 < count) & (set[1] <= set[0]))
-        | ((2 < count) & (set[2] <= set[1]))
-        | ((3 < count) & (set[3] <= set[2]))
+    match count {
+        0 => true,
+        1 => !too_large(set[0], n),
+        2 => (set[0] < set[1]) & !too_large(set[1], n),
+        3 => (set[0] < set[1]) & (set[1] < set[2]) & !too_large(set[2], n),
+        _ => (set[0] < set[1]) & (set[1] < set[2]) & (set[2] < set[3]) & !too_large(set[3], n),
+    }
 }
 
-// Refusal 6.
-pub(crate) fn is_not_ascending(b: &[u8]) -> bool
+// Neither 5 nor 6 is met in the sets.
+pub(crate) fn sets_proper(b: &[u8], n: usize) -> bool
     requires { ⌜ length (now b) ≡ 88 ⌝ }
-    ensures { λ r. ⌜ r ≡ notAscending (now (b .entry)) ⌝ }
+    ensures { λ r. ⌜ r ≡ setsProper n (now (b .entry)) ⌝ }
 {
-    set_descends(fields::set_at(b, 4), b[0]) | set_descends(fields::set_at(b, 12), b[1])
+    if set_proper(fields::set_at(b, 4), b[0], n) {
+        set_proper(fields::set_at(b, 12), b[1], n)
+    } else {
+        false
+    }
 }
 
 // The record is not among the first `count` of a set.
 fn is_unlisted(set: [u16; 4], count: u8, number: u16) -> bool
     ensures { λ r. ⌜ r ≡ unlisted set count number ⌝ }
 {
-    !(((0 < count) & (set[0] == number))
-        | ((1 < count) & (set[1] == number))
-        | ((2 < count) & (set[2] == number))
-        | ((3 < count) & (set[3] == number)))
+    if set[0] == number {
+        return count <= 0;
+    }
+    if set[1] == number {
+        return count <= 1;
+    }
+    if set[2] == number {
+        return count <= 2;
+    }
+    (set[3] != number) | (count <= 3)
 }
 
 fn reads_unlisted(x: Fields, set: [u16; 4], count: u8) -> bool

@@ -12,7 +12,8 @@ use crate::records;
 use terms::Refusal;
 use terms::Verdict;
 
-// Checks 4 to 8 of one entry.
+// Checks 4 to 8 of one entry. An action whose records are all declared in proper sets uses none that is N or more:
+// where nothing is undeclared, check 5 is not made of the actions.
 pub(crate) fn entry_verdict(b: &[u8], n: usize, index: usize) -> Verdict
     requires { ⌜ length (now b) ≡ 88 ⌝ }
     ensures { λ r. ⌜ r ≡ entryVerdict n index (now (b .entry)) ⌝ }
@@ -20,20 +21,23 @@ pub(crate) fn entry_verdict(b: &[u8], n: usize, index: usize) -> Verdict
     if form::is_malformed(b) {
         return Verdict::refuse(Refusal::Malformed, index);
     }
-    if records::has_no_such_record(b, n) {
-        return Verdict::refuse(Refusal::NoSuchRecord, index);
-    }
-    if records::is_not_ascending(b) {
+    if !records::sets_proper(b, n) {
+        if records::has_no_such_record(b, n) {
+            return Verdict::refuse(Refusal::NoSuchRecord, index);
+        }
         return Verdict::refuse(Refusal::NotAscending, index);
     }
     let undeclared = records::undeclared_by(b);
+    if !(undeclared.read | undeclared.write) {
+        return Verdict::Accepted;
+    }
+    if records::action_too_large(b, n) {
+        return Verdict::refuse(Refusal::NoSuchRecord, index);
+    }
     if undeclared.read {
         return Verdict::refuse(Refusal::UndeclaredRead, index);
     }
-    if undeclared.write {
-        return Verdict::refuse(Refusal::UndeclaredWrite, index);
-    }
-    Verdict::Accepted
+    Verdict::refuse(Refusal::UndeclaredWrite, index)
 }
 
 // The answer for one whole entry.
