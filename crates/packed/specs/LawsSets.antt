@@ -38,7 +38,8 @@ proper-one n set = go (leb n (getD set 0 0))
     go true = refl
     go false = refl
 
--- large and down: a record is N or more, and an entry does not ascend from the one before it
+-- `large` tells that a record is N or more, `last` that the last is, and `down` that an entry does not ascend from the
+-- one before it.
 two-joined : (large last down : Bool) → (down ≡ false → last ≡ false → large ≡ false)
     → (not down && not last) ≡ not ((((large || last) || false) || false) || ((down || false) || false))
 two-joined large last true so = rw (or-true (((large || last) || false) || false))
@@ -90,7 +91,7 @@ four-joined large larger largest false false false false so =
     let all = so refl refl refl refl in
     rw (all .0, all .1 .0, all .1 .1)
 
--- a count that is none of the first four, as a match on them leaves it
+-- four entries, or a count above four
 pub proper-four : (n : ℕ) (set : List ℕ) (count : ℕ) → 3 < count
     → (((ltb (getD set 0 0) (getD set 1 0) && ltb (getD set 1 0) (getD set 2 0))
     && ltb (getD set 2 0) (getD set 3 0)) && not (leb n (getD set 3 0)))

@@ -108,7 +108,7 @@ pub(crate) fn sets_proper(b: &[u8], n: usize) -> bool
     }
 }
 
-// The record is not among the first `count` of a set.
+// The record is not among the first `count` of a set; the first entry that is the record tells.
 fn is_unlisted(set: [u16; 4], count: u8, number: u16) -> bool
     ensures { λ r. ⌜ r ≡ unlisted set count number ⌝ }
 {
