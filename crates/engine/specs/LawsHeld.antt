@@ -7,7 +7,7 @@ use native.Mathlib.Decide.{decLt}
 use native.Mathlib.Omega.{arith}
 use lib.Dec.{ltb, leb, eqb}
 use lib.ListN.{getD}
-use borrow.Author.Tests.{lt-ltb, le-ltb, ltb-true, ltb-false, ne-eqb}
+use borrow.Author.Tests.{lt-ltb, le-ltb, lt-leb, le-leb, ltb-true, ltb-false, eq-eqb, ne-eqb}
 use Rattle.engine.specs.Counting.{someBelow}
 use Rattle.engine.specs.LawsCounting.{same-below, none-past}
 use Rattle.engine.specs.Range.{rowAt, workerAt, notHeld, rowWrong}
@@ -97,7 +97,7 @@ few-most size = go (ltb size 64) refl
     go true below = let less = ltb-true size 64 below in (omega (arith, less), omega arith)
     go false above = let more = ltb-false size 64 above in (omega arith, omega (arith, more))
 
-few-all : (size k : ℕ) → fewOf size ≤ k → k < 64 → size ≤ k
+pub few-all : (size k : ℕ) → fewOf size ≤ k → k < 64 → size ≤ k
 few-all size k = go (ltb size 64)
   where
     go : (test : Bool) → cond test size 64 ≤ k → k < 64 → size ≤ k
@@ -112,3 +112,34 @@ all-rows s =
     (held-same s k (omega (arith, below, most .0)) (rowAt s k .progress)))
     ∙ none-past (fewOf (s .size)) 64 (rowWrong s) (most .0) (λ k past below.
     rw (le-ltb k (s .size) (few-all (s .size) k past below)) refl)
+
+-- ---- what a partition can have placed
+abbrev pub mostPlaced : ℕ → ℕ → ℕ → ℕ
+mostPlaced partition size partitions = cond (ltb partition partitions) size 0
+
+or-false : (b : Bool) → b ≡ (b || false)
+or-false true = refl
+or-false false = refl
+
+or-true : (b : Bool) → true ≡ (b || true)
+or-true true = refl
+or-true false = refl
+
+none-placed : (size placed : ℕ) → Dec (0 < placed) → ltb 0 placed ≡ (ltb size placed || not (eqb placed 0))
+none-placed size placed (yes some) =
+    rw (lt-ltb 0 placed some, ne-eqb placed 0 (λ same. absurd (omega (arith, some, same)))) (or-true (ltb size placed))
+none-placed size placed (no none) =
+    rw (le-ltb 0 placed (omega arith), eq-eqb placed 0 (omega arith), le-ltb size placed (omega arith)) refl
+
+pub most-placed : (placed partition size partitions : ℕ)
+    → ltb (mostPlaced partition size partitions) placed
+    ≡ (ltb size placed || (leb partitions partition && not (eqb placed 0)))
+most-placed placed partition size partitions = go (decLt partition partitions)
+  where
+    go : Dec (partition < partitions) → ltb (mostPlaced partition size partitions) placed
+        ≡ (ltb size placed || (leb partitions partition && not (eqb placed 0)))
+    go (yes there) =
+        rw (lt-ltb partition partitions there, lt-leb partitions partition there) (or-false (ltb size placed))
+    go (no past) =
+        rw (le-ltb partition partitions (omega arith), le-leb partitions partition (omega arith))
+        (none-placed size placed (decLt 0 placed))

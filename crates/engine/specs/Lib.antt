@@ -10,6 +10,11 @@ pub mod LawsClaim
 pub mod LawsCounting
 pub mod LawsEntries
 pub mod LawsHeld
+pub mod LawsLent
+pub mod LawsLentAdvance
+pub mod LawsLentClaim
+pub mod LawsLentPlace
+pub mod LawsLentSeal
 pub mod LawsMake
 pub mod LawsOpen
 pub mod LawsPlace
@@ -17,6 +22,7 @@ pub mod LawsRange
 pub mod LawsRefused
 pub mod LawsSeal
 pub mod LawsTables
+pub mod Lent
 pub mod Make
 pub mod Moment
 pub mod Open
@@ -29,4 +35,5 @@ pub mod States
 pub mod Tables
 pub mod Theorems
 pub mod Unique
+pub mod UniqueLent
 pub mod Workers

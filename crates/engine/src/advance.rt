@@ -105,7 +105,7 @@ fn no_aim(verdict: Verdict) -> Aim
     }
 }
 
-fn refused_aim(refusal: Refusal) -> Aim
+pub(crate) fn refused_aim(refusal: Refusal) -> Aim
     ensures { λ r. ⌜ r ≡ noAim (refused refusal 0) ⌝ }
 {
     no_aim(Verdict::refuse(refusal, 0))
@@ -145,7 +145,13 @@ fn slot_looked(act: Act, number: usize, newest: &[u16]) -> u16
 }
 
 // A worker whose transaction is unpacked: refused as that says, or by 15, or aimed.
-fn aimed(worker: Worker, entry: Unpacked, newest: &[u16], bound: usize, position: u64) -> Aim
+pub(crate) fn aimed(
+    worker: Worker,
+    entry: Unpacked,
+    newest: &[u16],
+    bound: usize,
+    position: u64,
+) -> Aim
     ensures { λ r.
         ⌜ r
         ≡ aimWith (workVerdict worker entry) worker (entry .meaning) (now (newest .entry)) bound position ⌝ }
@@ -180,7 +186,7 @@ fn aimed(worker: Worker, entry: Unpacked, newest: &[u16], bound: usize, position
 
 impl State {
     // "a lent table's length is wrong", of those that an advance is lent
-    fn is_wrong_for_advance(
+    pub(crate) fn is_wrong_for_advance(
         self,
         records: usize,
         newest: usize,

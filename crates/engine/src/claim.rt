@@ -41,7 +41,7 @@ impl State {
     }
 
     // "no such .. worker or transaction"
-    fn has_no_such_claim(self, w: usize, i: usize) -> bool
+    pub(crate) fn has_no_such_claim(self, w: usize, i: usize) -> bool
         ensures { λ r. ⌜ r ≡ noSuchClaim self w i ⌝ }
     {
         (self.workers as usize <= w) | (self.size as usize <= i)

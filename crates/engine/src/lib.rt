@@ -4,6 +4,7 @@ mod acts;
 mod advance;
 mod answers;
 mod claim;
+pub mod lent;
 mod make;
 mod moment;
 mod moves;

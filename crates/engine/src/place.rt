@@ -108,7 +108,7 @@ fn no_placing(verdict: Verdict) -> Placing
     }
 }
 
-fn refused_placing(refusal: Refusal) -> Placing
+pub(crate) fn refused_placing(refusal: Refusal) -> Placing
     ensures { λ r. ⌜ r ≡ noPlacing (refused refusal 0) ⌝ }
 {
     no_placing(Verdict::refuse(refusal, 0))
@@ -116,14 +116,20 @@ fn refused_placing(refusal: Refusal) -> Placing
 
 impl State {
     // "a lent table's length is wrong", of those that a place step is lent
-    fn is_wrong_for_place(self, newest: usize, versions: usize) -> bool
+    pub(crate) fn is_wrong_for_place(self, newest: usize, versions: usize) -> bool
         ensures { λ r. ⌜ r ≡ wrongForPlace self newest versions ⌝ }
     {
         tables::is_not_of(newest, self.records as usize) | tables::is_not_of(versions, 256)
     }
 
     // A transaction whose entry is unpacked: refused as that says, or by 15, or planned.
-    fn planned(self, p: usize, transaction: u8, entry: Unpacked, newest: &[u16]) -> Placing
+    pub(crate) fn planned(
+        self,
+        p: usize,
+        transaction: u8,
+        entry: Unpacked,
+        newest: &[u16],
+    ) -> Placing
         requires { ⌜ (1 ≤ self .partitions) × ((positionOf self transaction ≤ noEnd) × (transaction < 255)) ⌝ }
         ensures { λ r.
             ⌜ r

@@ -7,7 +7,7 @@ ghost use Rattle.terms.specs.Reserved.{noEnd};
 ghost use Rattle.engine.specs.Counting.{someBelow};
 ghost use lib.ListN.{getD};
 ghost use Rattle.engine.specs.Range.{numbersWrong, placedWrong, workerWrong, rowWrong, outOfRange};
-ghost use Rattle.engine.specs.LawsHeld.{wrongAmong, heldBy, heldIn, heldOf, notHeldIn, fewOf};
+ghost use Rattle.engine.specs.LawsHeld.{wrongAmong, heldBy, heldIn, heldOf, notHeldIn, fewOf, mostPlaced};
 ghost use Rattle.engine.specs.Rows.{row};
 ghost use Rattle.engine.specs.declared.Progress.the-variants.{Unprocessed};
 use crate::Progress;
@@ -27,7 +27,7 @@ fn is_past_the_end(next: u64, size: u8) -> bool
 
 impl State {
     // "N, P, W; n above 64; F zero or F + n above 2^64 − 1; batch number not below F"
-    fn has_wrong_number(self) -> bool
+    pub(crate) fn has_wrong_number(self) -> bool
         ensures { λ r. ⌜ r ≡ numbersWrong self ⌝ }
     {
         let next = self.next.0;
@@ -43,11 +43,22 @@ impl State {
     }
 }
 
+// What a partition can have placed: at most n, and nothing past P.
+fn most_placed(partition: usize, size: u8, partitions: u8) -> u8
+    ensures { λ r. ⌜ r ≡ mostPlaced partition size partitions ⌝ }
+{
+    if partition < partitions as usize {
+        size
+    } else {
+        0
+    }
+}
+
 // "a placed count above n, or not 0 past P"
 fn is_wrong_placed(placed: u8, partition: usize, size: u8, partitions: u8) -> bool
     ensures { λ r. ⌜ r ≡ (ltb size placed || (leb partitions partition && not (eqb placed 0))) ⌝ }
 {
-    (size < placed) | ((partitions as usize <= partition) & (placed != 0))
+    most_placed(partition, size, partitions) < placed
 }
 
 // The transaction of any number; past the last, an Unprocessed one.
@@ -115,7 +126,7 @@ fn few(size: u8) -> usize
 }
 
 impl State {
-    fn has_wrong_placed(self) -> bool
+    pub(crate) fn has_wrong_placed(self) -> bool
         ensures { λ r. ⌜ r ≡ someBelow 8 (placedWrong self) ⌝ }
     {
         let mut wrong = false;

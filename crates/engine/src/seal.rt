@@ -25,7 +25,7 @@ pub struct Sealing {
     pub batch: u64,
 }
 
-fn refused_seal(refusal: Refusal) -> Sealing
+pub(crate) fn refused_seal(refusal: Refusal) -> Sealing
     ensures { λ r. ⌜ r ≡ sealingBy (refused refusal 0) 0 0 ⌝ }
 {
     Sealing {
@@ -45,7 +45,7 @@ pub(crate) fn closes(sealing: Sealing) -> bool
 
 impl State {
     // "a lent table's length is wrong", of those that a seal is lent
-    fn is_wrong_for_seal(self, records: usize, newest: usize, versions: usize) -> bool
+    pub(crate) fn is_wrong_for_seal(self, records: usize, newest: usize, versions: usize) -> bool
         ensures { λ r. ⌜ r ≡ wrongForSeal self records newest versions ⌝ }
     {
         tables::is_not_of(records, self.records as usize)

@@ -4,3 +4,9 @@ pub mod Place
 pub mod Seal
 pub mod Tables
 pub mod Versions
+pub mod Lists
+pub mod Range
+pub mod Claiming
+pub mod Placing
+pub mod Sealing
+pub mod Advancing
