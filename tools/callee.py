@@ -22,17 +22,23 @@ import sys
 spec = runpy.run_path(sys.argv[1])
 uses = runpy.run_path(sys.argv[0].rsplit('/', 1)[0] + '/uses.py')
 TY = spec['TYPES']
-V = lambda t: 'Choice' if TY[t][0] == 'enum' else 'Value'
+V = lambda t: {'enum': 'Choice', 'array': 'Listed'}.get(TY[t][0], 'Value')
+# an array is ('array', name of its element's type, prefix of that, number of elements)
+N = lambda t: ' %d' % TY[t][3] if TY[t][0] == 'array' else ''
 LAWS = lambda t: 'EL' if TY[t][0] == 'enum' else 'LL'
 
 
 def row(t):
     k = TY[t]
+    if k[0] == 'array':
+        return '(Array %s.the-row %d)' % (k[2], k[3])
     return k[1] if k[0] == 'num' else 'bool' if k[0] == 'bool' else k[2] + '.the-row'
 
 
 def denot(t):
     k = TY[t]
+    if k[0] == 'array':
+        return '(List %s)' % k[1]
     return 'ℕ' if k[0] == 'num' else 'Bool' if k[0] == 'bool' else k[1]
 
 
@@ -40,14 +46,14 @@ def machine(t, x):
     k = TY[t]
     if k[0] == 'num':
         return 'vint %s %s' % (k[2], x)
-    return 'vbool %s' % x if k[0] == 'bool' else '%s.mach %s.the-type %s′.the-laws %s' % (V(t), k[2], k[2], x)
+    return 'vbool %s' % x if k[0] == 'bool' else '%s.mach %s.the-type %s′.the-laws%s %s' % (V(t), k[2], k[2], N(t), x)
 
 
 def good(t, x):
     k = TY[t]
     if k[0] == 'num':
         return '%s < 2 ^ %s' % (x, k[2][1:])
-    return None if k[0] == 'bool' else '%s.Good %s.the-type %s′.the-laws %s' % (V(t), k[2], k[2], x)
+    return None if k[0] == 'bool' else '%s.Good %s.the-type %s′.the-laws%s %s' % (V(t), k[2], k[2], N(t), x)
 
 
 def own(t, x, g):
@@ -56,6 +62,9 @@ def own(t, x, g):
         return 'owned ! %s (Is %s) (uint-makes 𝓤 H A W %s) %s _ (refl, %s)' % (k[1], k[1], k[2], x, g)
     if k[0] == 'bool':
         return 'owned ! bool (Is bool) (bool-makes 𝓤 H A W) %s _ refl' % x
+    if k[0] == 'array':
+        return 'owned ! %s (Is %s) (array-makes 𝓤 H A W %s.the-row (LL.makes %s.the-type %s′.the-plain 𝓤 H A) %d) %s _ %s' % (
+            row(t), row(t), k[2], k[2], k[2], k[3], x, g)
     return 'owned ! %s.the-row (Is %s.the-row) (%s.makes %s.the-type %s′.the-plain 𝓤 H A) %s _ %s' % (
         k[2], k[2], LAWS(t), k[2], k[2], x, g)
 
@@ -129,7 +138,7 @@ def last_type(c):
 
 
 def gen(c):
-    f, N, ps = c['fn'], c['name'], c['params']
+    f, name, ps = c['fn'], c['name'], c['params']
     slices = [(p, t.split()[0], t.split()[1]) for p, t in ps if ' ' in t]
     elem = {p: e for p, _, e in slices}
     muts = [p for p, k, e in slices if k == 'mut']
@@ -137,8 +146,8 @@ def gen(c):
     M = '𝓤 H A mem run'
     G = '{M : Type 1} (𝓤 : URA M) (H : Heap 𝓤) (A : Atoms 𝓤)'
     R = '(mem : Memory → SProp 𝓤) (run : Routine → Fun 𝓤)'
-    o = ['-- ---- `%s`' % f, 'module _ %s %s where' % (G, R), '  abbrev pub %s : Contract 𝓤' % N,
-         '  %s = tripleOf 𝓤 H A %s.signature (%s.spec 𝓤 H A mem run)\n' % (N, f, f)]
+    o = ['-- ---- `%s`' % f, 'module _ %s %s where' % (G, R), '  abbrev pub %s : Contract 𝓤' % name,
+         '  %s = tripleOf 𝓤 H A %s.signature (%s.spec 𝓤 H A mem run)\n' % (name, f, f)]
     vals = ' '.join('(%s : %s)' % (p, 'List ' + denot(t.split()[1]) if ' ' in t else denot(t)) for p, t in ps)
     blocks = ' '.join('(b-%s o-%s m-%s : ℕ)' % (p, p, p) for p, _, _ in slices)
     loans = ' '.join('(κ-%s : Lft) (q-%s : Share) (δ-%s : GName)' % (p, p, p) for p, _, _ in slices)
@@ -150,7 +159,7 @@ def gen(c):
     κs = nest(['κ-' + p for p, _, _ in slices])
     qs = nest(['q-' + p for p, _, _ in slices])
     o += ['  abbrev args-%s : %s' % (f, argT), '  args-%s = %s\n' % (f, args)]
-    o += ['  abbrev pub to-%s : %s %s .Ghost' % (f, N, M),
+    o += ['  abbrev pub to-%s : %s %s .Ghost' % (f, name, M),
           '  to-%s = ((%s, %s, tt, args-%s, %s), tt)\n' % (f, κs, qs, f, mach)]
     item = {p: '‵ (%s %s b-%s o-%s m-%s κ-%s δ-%s %s)' % ('holds' if k == 'mut' else 'sees', row(e), p, p, p, p, p, p)
             for p, k, e in slices}
@@ -182,7 +191,7 @@ def gen(c):
         x.push('nothing !', 'e')
         x.bring('all', 'e')
     x.op('done !')
-    o += ['  pub %s-goes : %sent 𝓤 (⋆ 𝓤 H A %s-lent) (%s %s .pre to-%s)' % (f, hyps, f, N, M, f),
+    o += ['  pub %s-goes : %sent 𝓤 (⋆ 𝓤 H A %s-lent) (%s %s .pre to-%s)' % (f, hyps, f, name, M, f),
           '  %s-goes %s=\n      qed W %s-lent ∵ %s\n' % (f, names + ' ' if names else '', f, x.text())]
     # what comes back
     facts = dict(c['facts'])
@@ -202,7 +211,7 @@ def gen(c):
     elif TY[rt][0] == 'bool':
         said = ['u ≡ vbool (%s)' % res]
     else:
-        said = ['%s.IsValue %s.the-type %s′.the-laws (%s) u' % (V(rt), TY[rt][2], TY[rt][2], res)]
+        said = ['%s.IsValue %s.the-type %s′.the-laws%s (%s) u' % (V(rt), TY[rt][2], TY[rt][2], N(rt), res)]
     said += ['%s ≡ %s' % (at(j), facts[m]) for j, m in enumerate(muts) if m in facts]
     said += ['length (%s) ≡ length %s' % (at(j), m) for j, m in enumerate(muts)]
     o += ['  abbrev pub %s-said : Val → %s → Type 0' % (f, lastT), '  %s-said u x = %s\n' % (f, prod(said))]
@@ -258,22 +267,22 @@ def gen(c):
         proofs = ['ap only w']
     elif free:
         proofs = ['(ap only (is .0), is .1)' if TY[rt][0] == 'num' else 'ap only is' if TY[rt][0] == 'bool' else
-                  '%s.is-value %s.the-type %s′.the-laws r r u refl is' % (V(rt), TY[rt][2], TY[rt][2])]
+                  '%s.is-value %s.the-type %s′.the-laws%s r r u refl is' % (V(rt), TY[rt][2], TY[rt][2], N(rt))]
     elif TY[rt][0] == 'num':
         proofs = ['(ap only (is .0) ∙ ap (vint %s) (%s), subst (λ (z : ℕ). z < 2 ^ %s) (%s) (is .1))' % (
             TY[rt][2], path(0), TY[rt][2][1:], path(0))]
     elif TY[rt][0] == 'bool':
         proofs = ['ap only is ∙ ap vbool (%s)' % path(0)]
     else:
-        proofs = ['%s.is-value %s.the-type %s′.the-laws r (%s) u (%s) is' % (
-            V(rt), TY[rt][2], TY[rt][2], facts['r'], path(0))]
+        proofs = ['%s.is-value %s.the-type %s′.the-laws%s r (%s) u (%s) is' % (
+            V(rt), TY[rt][2], TY[rt][2], N(rt), facts['r'], path(0))]
     proofs += [path((1 if rt and not free else 0) + j) for j, m in enumerate(known)] + ['n-' + m for m in muts]
     wit = 'tt' if not last else pair([zat(m) for m in muts] + (['r'] if free else []))
     want = [s for p, k, e in slices for s in (['t-' + p] + (['fin-' + p] if k == 'mut' else []))]
     y.op('at-once ! $ show ! (%s-after u) (%s) $ check ! (%s) $ keep ! (%s) $ done !' % (
         f, wit, pair(proofs), ''.join('%d ∷ ' % y.l.index(w) for w in want) + '[]'))
-    o += ['  pub %s-gives : (u : Val) → ent 𝓤 (%s %s .post to-%s u) (H .⇛ (ex 𝓤 (%s-after u)))' % (f, N, M, f, f),
-          '  %s-gives u =\n      qed W (raw (%s %s .post to-%s u) ∷ []) ∵ updating ! $' % (f, N, M, f),
+    o += ['  pub %s-gives : (u : Val) → ent 𝓤 (%s %s .post to-%s u) (H .⇛ (ex 𝓤 (%s-after u)))' % (f, name, M, f, f),
+          '  %s-gives u =\n      qed W (raw (%s %s .post to-%s u) ∷ []) ∵ updating ! $' % (f, name, M, f),
           '      use1 W (later (some (λ (r : %s). ((%s) ⊛ ‵ (%s .own r (u ∷ []))) ⊛ raw (ensured 𝓤 H A %s.ended '
           '(%s.clauses %s) %s args-%s tt r)))) (id⊢ 𝓤 _) $ await ! tt $ pick ! (λ r.' % (RD, toks, RR, f, f, M, κs, f),
           '      split ! $ move ! (1 ∷ []) $ use1 W (some (λ (zs : %s). ‵ (lasts %s.ended %s args-%s zs) ⊛ '

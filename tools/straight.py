@@ -33,8 +33,8 @@ import sys
 
 sys.argv, argv = [sys.argv[0], sys.argv[1]], sys.argv
 base = runpy.run_path(argv[0].replace('straight.py', 'callee.py'))
-TY, V, LAWS, row, denot, machine, good, own, nest, nestT, prod, pair, Ctx, spec, uses = (
-    base[k] for k in 'TY V LAWS row denot machine good own nest nestT prod pair Ctx spec uses'.split())
+TY, V, N, LAWS, row, denot, machine, good, own, nest, nestT, prod, pair, Ctx, spec, uses = (
+    base[k] for k in 'TY V N LAWS row denot machine good own nest nestT prod pair Ctx spec uses'.split())
 lasting, last_type = base['lasting'], base['last_type']
 CAL = {c['fn']: c for c in spec['CALLEES']}
 F = spec['FUNCS'][argv[3]]
@@ -82,7 +82,8 @@ def flat(b):
 
 
 fn = hunt(parse(open(argv[2]).read()))[2]
-nloc = len(lst(fn[4]))
+LOCALS = lst(fn[4])
+nloc = len(LOCALS)
 ps = F['params']
 slices = [(p, t.split()[0], t.split()[1]) for p, t in ps if ' ' in t]
 SL = {p: (k, e) for p, k, e in slices}
@@ -114,8 +115,8 @@ def valT(t, term, g):
         return '(tt, record { fits = %s })' % g
     if k[0] == 'bool':
         return '(tt, tt)'
-    return '(%s.typed %s.the-type %s′.the-laws %s𝓤 H A W %s (%s) (refl, %s))' % (
-        V(t), k[2], k[2], 'tt ' if k[0] == 'enum' else '', par(term), machine(t, par(term)), g)
+    return '(%s.typed %s.the-type %s′.the-laws%s %s𝓤 H A W %s (%s) (refl, %s))' % (
+        V(t), k[2], k[2], N(t), 'tt ' if k[0] == 'enum' else '', par(term), machine(t, par(term)), g)
 
 
 class Walk:
@@ -133,6 +134,7 @@ class Walk:
         s.full = set(s.env)
         s.within = False
         s.arrays = {}
+        s.whole = {}
         s.tests = 0
         s.returns = 0
 
@@ -207,10 +209,15 @@ class Walk:
             s.op('%s ! (bin ! %s (lit ! tt) (record { fits = %s })) %s' % (
                 put, s.opd(r[2])[0], FITS, s.store(k, '(tt, record { fits = %s })' % FITS)))
         else:
+            whole = r[1][0] == 'copy' and not place(r[1][1])[1]
+            if whole and place(r[1][1])[0] in s.whole:
+                s.together(place(r[1][1])[0])
             a, d = s.opd(r[1])
             s.op('%s ! (of-opd ! %s) %s' % (put, a, s.store(k, '(tt, tt)' if d is None else valT(*d[1:]))))
             if d:
                 s.env[k] = d
+                if d[0] == 'val' and TY[d[1]][0] == 'array' and LOCALS[k][2] == 'memorySlot':
+                    s.apart(k)
 
     def repeat(s, k, r):
         """an array written whole, and taken apart into its elements"""
@@ -244,7 +251,8 @@ class Walk:
         x, cur = s.x, s.cur
         c = CAL[F['calls'][s.calls]]
         s.calls += 1
-        n, f = s.calls, c['fn']
+        # what call n returns is named after n; u8, u16, u32 and u64 are types
+        n, f = s.calls + (100 if s.calls in (8, 16, 32, 64) else 0), c['fn']
         os = lst(b[2])
         dest, _ = place(b[3])
         sub, hyps, loans = {}, [], []
@@ -288,10 +296,10 @@ class Walk:
         inst = ' '.join([Wm] + [sub[cp] for cp, _ in c['params']] + [spot(p) for _, _, p in loans]
                         + [' '.join(lifes[cp]) for cp, _, _ in loans])
         x.bring(*[y for cp, _, _ in loans for y in ('tk-' + cp, 'hd-' + cp)])
-        N = 2 * len(loans)
+        entries = 2 * len(loans)
         goes = '(%s-goes %s)' % (f, ' '.join([inst] + hyps + ([c['req-proof']] if c.get('requires') else [])))
-        s.op('use%d W (raw (%s %s .pre (to-%s %s))) %s' % (N, c['name'], mem, f, inst, goes))
-        x.l[:N] = ['pre']
+        s.op('use%d W (raw (%s %s .pre (to-%s %s))) %s' % (entries, c['name'], mem, f, inst, goes))
+        x.l[:entries] = ['pre']
         s.op('calls-at ! fm (%s %s) k-%s (to-%s %s) %s (λ u%d. ' % (c['name'], mem, f, f, inst, s.opds(os), n))
         s.close += 1
         muts = [(cp, p) for cp, ck, p in loans if ck == 'mut']
@@ -331,6 +339,12 @@ class Walk:
                 x.l[:3] = ['S-' + p]
                 s.leng[p] = '%s ∙ %s' % (sp(1 + len(known) + j), s.leng[p])
                 cur[p] = last
+                if cp in facts and p in ['own-%d' % a for a in s.whole]:
+                    eq = sp(1 + known.index(cp))
+                    s.op('rewrite ! 0 (λ (l : List %s). ‵ (row %s fullShare l %s 0)) (%s) refl' % (
+                        denot(e), row(e), ARRAYS[p][0], eq))
+                    s.leng[p] = 'sym (ap (λ (l : List %s). length l) (%s)) ∙ %s' % (denot(e), eq, s.leng[p])
+                    cur[p] = facts[cp]
             elif k == 'mut' and ck == 'mut':
                 j = [q for q, _ in muts].index(cp)
                 x.bring('tk-' + cp, 'fin-' + cp, 'kp-' + cp)
@@ -369,11 +383,42 @@ class Walk:
         elif kk[0] == 'bool':
             ty, g, eq = 'bool-typed u%d %s (%s)' % (n, par(term), sp(0)), 'tt', sp(0)
         else:
-            ty = '%s.typed %s.the-type %s′.the-laws %s𝓤 H A W %s u%d (%s)' % (
-                V(ct), kk[2], kk[2], 'tt ' if kk[0] == 'enum' else '', par(term), n, sp(0))
+            ty = '%s.typed %s.the-type %s′.the-laws%s %s𝓤 H A W %s u%d (%s)' % (
+                V(ct), kk[2], kk[2], N(ct), 'tt ' if kk[0] == 'enum' else '', par(term), n, sp(0))
         s.op('land ! %s' % s.store(dest, '(%s)' % ty))
         s.op('rewrite ! %d (λ (z : Val). ‵ (fat fullShare (τ %d) l-%d 0 z)) (%s) refl' % (s.pos(dest), dest, dest, eq))
         s.env[dest] = ('val', ct, term, g)
+
+    def apart(s, k):
+        """an array that a local in memory holds, taken apart into its elements so that it can be lent"""
+        _, t, term, g = s.env[k]
+        R, count = TY[t][2] + '.the-row', TY[t][3]
+        p = 'own-%d' % k
+        s.x.push(own(t, par(term), par(g)), 'all')
+        s.full.discard(k)
+        s.x.bring('L%d' % k, 'all')
+        s.op('use2 W (‵ (row %s fullShare (%s) l-%d 0)) (array-in 𝓤 H A W %s %d l-%d 0 tt (%s) (%s))' % (
+            R, term, k, R, count, k, term, machine(t, par(term))))
+        s.x.l[:2] = ['S-' + p]
+        ARRAYS[p] = ('l-%d' % k, count)
+        SL[p] = ('own', TY[t][1])
+        s.cur[p], s.leng[p] = term, '%s .1 .0 .1' % par(g)
+        s.arrays[k] = p
+        s.env[k] = ('slice', p)
+        s.whole[k] = t
+
+    def together(s, k):
+        """such an array put together again, to be passed by value"""
+        p, t = s.arrays.pop(k), s.whole[k]
+        s.x.bring('S-' + p)
+        s.op('use1 W (given (%s) (‵ (fat fullShare (τ %d) l-%d 0 (%s)))) (Listed.array-back %s.the-type %s′.the-laws%s '
+             '𝓤 H A W l-%d 0 %s (%s)) $ learn ! (λ whole-%d. ' % (
+                 good(t, par(s.cur[p])), k, k, machine(t, par(s.cur[p])), TY[t][2], TY[t][2], N(t), k, par(s.cur[p]),
+                 s.leng[p], k))
+        s.close += 1
+        s.x.l[0] = 'L%d' % k
+        s.full.add(k)
+        s.env[k] = ('val', t, s.cur[p], 'whole-%d' % k)
 
     def ret(s, proofs):
         x = s.x

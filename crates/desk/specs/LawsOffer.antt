@@ -48,3 +48,26 @@ module _ (step : Step) (log : List ℕ) (s : Session) where
   offer-none place claim advance seal =
       fails (isSeal step) _ _ seal
       ∙ (fails (isAdvance step) _ _ advance ∙ (fails (isClaim step) _ _ claim ∙ fails (isPlace step) _ _ place))
+
+  -- a step that is neither a place nor a claim
+  abbrev pub laterOf : Session
+  laterOf =
+      cond (isAdvance step)
+      (afterAdvance (advanceFor (s .tally) (step .party) log (s .records) (s .newest) (s .versions) (s .results)) s)
+      (cond (isSeal step) (afterSeal (sealFor (s .tally) (s .records) (s .newest) (s .versions)) s) (afterNone s))
+
+  pub offer-later : T (not (isPlace step)) → T (not (isClaim step)) → laterOf ≡ offerOf step log s
+  unfolding offerOf
+  offer-later place claim = fails (isClaim step) _ _ claim ∙ fails (isPlace step) _ _ place
+
+  pub later-advance : T (isAdvance step)
+      → afterAdvance (advanceFor (s .tally) (step .party) log (s .records) (s .newest) (s .versions) (s .results)) s
+      ≡ laterOf
+  later-advance advance = holds (isAdvance step) _ _ advance
+
+  pub later-seal : T (not (isAdvance step)) → T (isSeal step)
+      → afterSeal (sealFor (s .tally) (s .records) (s .newest) (s .versions)) s ≡ laterOf
+  later-seal advance seal = holds (isSeal step) _ _ seal ∙ fails (isAdvance step) _ _ advance
+
+  pub later-none : T (not (isAdvance step)) → T (not (isSeal step)) → afterNone s ≡ laterOf
+  later-none advance seal = fails (isSeal step) _ _ seal ∙ fails (isAdvance step) _ _ advance

@@ -1,4 +1,5 @@
 pub mod Counts
+pub mod LawsLending
 pub mod LawsLines
 pub mod LawsOffer
 pub mod LawsPieces

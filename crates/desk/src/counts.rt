@@ -7,7 +7,7 @@ use engine::State;
 use engine::Stepped;
 
 // One more, of a count that stays at 2^64 − 1.
-fn one_more(count: u64) -> u64
+pub(crate) fn one_more(count: u64) -> u64
     ensures { λ r. ⌜ r ≡ oneMore count ⌝ }
 {
     if count < 18446744073709551615 {

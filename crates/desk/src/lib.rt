@@ -1,6 +1,7 @@
 // What the program does with the steps that it is offered: each goes to the engine or is refused at once, and is
 // counted.
 mod counts;
+pub(crate) mod lending;
 mod offering;
 mod output;
 mod steps;

@@ -5,6 +5,7 @@ ghost use Rattle.desk.specs.Offer.{placeFor, claimFor, advanceFor, sealF
 use crate::Step;
 use crate::Tally;
 use crate::counts;
+use crate::lending;
 use crate::steps;
 use versions::Version;
 
@@ -121,7 +122,7 @@ pub fn offer(
 
 // Offers the whole steps in the first `bytes` bytes of a piece of their file, one after the other.
 pub fn offer_all(
-    mut tally: Tally,
+    tally: Tally,
     piece: &[u8],
     bytes: usize,
     log: &[u8],
@@ -142,12 +143,20 @@ pub fn offer_all(
         × (now (results .exit) ≡ runOf (now (piece .entry)) bytes (now (log .entry)) (sessionOf tally
         (now (records .entry)) (now (newest .entry)) (now (versions .entry)) (now (results .entry))) .results)))) ⌝ }
 {
-    let count = steps::whole_steps(piece.len(), bytes);
-    let mut k: usize = 0;
-    while k < count {
-        let step = steps::step_at(piece, k);
-        tally = offer(tally, step, log, records, newest, versions, results);
-        k = k + 1;
-    }
-    tally
+    let sheet = lending::sheet_of(tally);
+    let mut rows = lending::rows_of(tally);
+    let mut crew = lending::crew_of(tally);
+    let after = lending::offer_each(
+        sheet,
+        piece,
+        bytes,
+        &mut rows,
+        &mut crew,
+        log,
+        records,
+        newest,
+        versions,
+        results,
+    );
+    lending::tally_of(after, rows, crew)
 }

@@ -50,16 +50,15 @@ use Rattle.walks.proofs.Typed.{num-typed, bool-typed, unit-typed, wider-w8, wid
 use Rattle.walks.proofs.Value as Value
 use Rattle.walks.proofs.Choice as Choice
 use Rattle.walks.proofs.Loans.{holds, sees, lend-mut, back-mut, lend-shr, back-shr, use4, use6, use8, use10}
-use Prim.Native.Nat.{suc, _+_, _-_, _≤_, zero-le}
-use native.Mathlib.Nat.{le-antisymm, lt-of-le-of-lt}
-use native.Mathlib.Numerals.{add-one, add-one-le, add-one-dec}
-use mathlib.Core.WellFounded.{WellFounded, InvImage·wf}
-use lib.WfN.{Nat·lt-wfRel}
-use lib.Dec.{T as Holds, ltb, ltb→lt, nltb→le}
-use base.Fml.{froom, fdies}
-use prog.Wp.{Out, Env, afterSeq, afterBlock, afterTurn, Wp, atReturn}
-use types.Kit.{Sq, runs, anyQ, atRet}
-use types.Run.{bin, assigns-last, first, blocks, branches, skips, jumps, exec, Below, again, loops}
+use lib.ListN.{replicate, length-replicate}
+use base.Fml.{froom}
+use types.Part.{rep}
+use denote.Laws.{shows}
+use denote.Array.{Array, arrayVal, array-lawful, array-repeat}
+use denote.Index.{row}
+use denote.Steps.{peeks}
+use Rattle.walks.proofs.Own.{array-in, array-out}
+use Rattle.walks.proofs.Loans.{lend-own, back-own}
 use Prim.Native.Nat.{_/_}
 use Rattle.versions.specs.declared.Version.{Version}
 use Rattle.versions.proofs.Version as T
@@ -83,31 +82,58 @@ use Rattle.desk.proofs.Step as P
 use Rattle.desk.proofs.Step.Laws as P′
 use Rattle.desk.proofs.Tally as C′
 use Rattle.desk.proofs.Tally.Laws as C′′
-use Rattle.desk.specs.LawsSteps.{within}
-use Rattle.desk.proofs.steps.whole_steps.Symbol as whole-steps-def
-use Rattle.desk.proofs.steps.whole_steps.Symbol.{name as #whole-steps}
-use Rattle.desk.proofs.steps.whole_steps.Met as whole-steps-thm
-use Rattle.desk.proofs.Laws.Calls.Steps.{
-  WholeSteps,
-  to-whole-steps,
-  whole-steps-said,
-  whole-steps-goes,
-  whole-steps-gives,
+use Rattle.engine.specs.Claim.{claimOf}
+use Rattle.engine.specs.Lent.{joined, countedOf}
+use Rattle.engine.specs.declared.Answer.{Answer}
+use Rattle.engine.specs.declared.Row.{Row}
+use Rattle.engine.specs.declared.Worker.{Worker}
+use Rattle.engine.specs.declared.lent.Counted.{Counted}
+use Rattle.engine.specs.declared.lent.Numbers.{Numbers}
+use Rattle.engine.proofs.Answer as X
+use Rattle.engine.proofs.Answer.Laws as X′
+use Rattle.engine.proofs.Row as R′
+use Rattle.engine.proofs.Row.Laws as R′′
+use Rattle.engine.proofs.Worker as W′
+use Rattle.engine.proofs.Worker.Laws as W′′
+use Rattle.engine.proofs.lent.Counted as G
+use Rattle.engine.proofs.lent.Counted.Laws as G′
+use Rattle.engine.proofs.lent.Numbers as B
+use Rattle.engine.proofs.lent.Numbers.Laws as B′
+use Rattle.desk.specs.declared.lending.Sheet.{Sheet}
+use Rattle.desk.specs.LawsLending.{sheetOf, tallyOf, sheetCounted, sheetSealed, sheetRefused, sheetBy}
+use Rattle.desk.specs.LawsLending.{sheetSealedBy}
+use Rattle.desk.specs.LawsOffer.{laterOf}
+use denote.Array.{Array, array-makes}
+use Rattle.desk.proofs.Laws.Listed as Listed
+use Rattle.desk.proofs.lending.Sheet as D
+use Rattle.desk.proofs.lending.Sheet.Laws as D′
+use Rattle.desk.proofs.Laws.Wide.{use14, use16}
+use Rattle.desk.proofs.lending.sheet_of.Symbol as sheet-of-def
+use Rattle.desk.proofs.lending.sheet_of.Symbol.{name as #sheet-of}
+use Rattle.desk.proofs.lending.sheet_of.Met as sheet-of-thm
+use Rattle.desk.proofs.Laws.Calls.Lending.{SheetOf, to-sheet-of, sheet-of-said, sheet-of-goes, sheet-of-gives}
+use Rattle.desk.proofs.lending.rows_of.Symbol as rows-of-def
+use Rattle.desk.proofs.lending.rows_of.Symbol.{name as #rows-of}
+use Rattle.desk.proofs.lending.rows_of.Met as rows-of-thm
+use Rattle.desk.proofs.Laws.Calls.Lending.{RowsOf, to-rows-of, rows-of-said, rows-of-goes, rows-of-gives}
+use Rattle.desk.proofs.lending.crew_of.Symbol as crew-of-def
+use Rattle.desk.proofs.lending.crew_of.Symbol.{name as #crew-of}
+use Rattle.desk.proofs.lending.crew_of.Met as crew-of-thm
+use Rattle.desk.proofs.Laws.Calls.Lending.{CrewOf, to-crew-of, crew-of-said, crew-of-goes, crew-of-gives}
+use Rattle.desk.proofs.lending.offer_each.Symbol as offer-each-def
+use Rattle.desk.proofs.lending.offer_each.Symbol.{name as #offer-each}
+use Rattle.desk.proofs.lending.offer_each.Met as offer-each-thm
+use Rattle.desk.proofs.Laws.Calls.Lending.{
+  OfferEach,
+  to-offer-each,
+  offer-each-said,
+  offer-each-goes,
+  offer-each-gives,
 }
-use Rattle.desk.proofs.steps.step_at.Symbol as step-at-def
-use Rattle.desk.proofs.steps.step_at.Symbol.{name as #step-at}
-use Rattle.desk.proofs.steps.step_at.Met as step-at-thm
-use Rattle.desk.proofs.Laws.Calls.Steps.{StepAt, to-step-at, step-at-said, step-at-goes, step-at-gives}
-use Rattle.desk.proofs.offering.offer.Symbol as offer-call-def
-use Rattle.desk.proofs.offering.offer.Symbol.{name as #offer-call}
-use Rattle.desk.proofs.offering.offer.Met as offer-call-thm
-use Rattle.desk.proofs.Laws.Calls.Offering.{
-  OfferCall,
-  to-offer-call,
-  offer-call-said,
-  offer-call-goes,
-  offer-call-gives,
-}
+use Rattle.desk.proofs.lending.tally_of.Symbol as tally-of-def
+use Rattle.desk.proofs.lending.tally_of.Symbol.{name as #tally-of}
+use Rattle.desk.proofs.lending.tally_of.Met as tally-of-thm
+use Rattle.desk.proofs.Laws.Calls.Lending.{TallyOf, to-tally-of, tally-of-said, tally-of-goes, tally-of-gives}
 use Rattle.desk.proofs.offering.offer_all.Key.{name as #own}
 use Rattle.desk.proofs.offering.offer_all as own
 use Rattle.desk.proofs.offering.offer_all.Statement as stated
@@ -355,27 +381,10 @@ module _ {M : Type 1} (𝓤 : URA M) (H : Heap 𝓤) (A : Atoms 𝓤) (W : Given
       fjoin ! $ frame ! $ owned ! C′.the-row (Is C′.the-row) (LL.makes C′.the-type C′′.the-plain 𝓤 H A) h _ g-h $
       done !
 
-  abbrev n : ℕ
-  n = wholeSteps m-piece bytes
-
-  -- the turns so far, at most n; a turn brings the walk nearer to n
-  abbrev Upto : Type 0
-  Upto = (i : ℕ) × ((i ≤ n) × ((Value.Good C′.the-type C′′.the-laws (offersOf piece log
-      (sessionOf tally records newest versions results) i .tally)) × ((length (offersOf piece log
-      (sessionOf tally records newest versions results) i .records) ≡ m-records) × ((length (offersOf piece log
-      (sessionOf tally records newest versions results) i .newest) ≡ m-newest) × ((length (offersOf piece log
-      (sessionOf tally records newest versions results) i .versions) ≡ m-versions) × (length (offersOf piece log
-      (sessionOf tally records newest versions results) i .results) ≡ m-results))))))
-
-  abbrev Nearer : Upto → Upto → Type 0
-  Nearer j i = n - j .0 < n - i .0
-
-  Nearer-wf : WellFounded Nearer
-  Nearer-wf = InvImage·wf (λ (i : Upto). n - i .0) (Nat·lt-wfRel .wf)
-
-  module _ (𝓣 : Tables 𝓤 H) (k-whole-steps : Triple 𝓤 (𝓣 .C #whole-steps) (WholeSteps 𝓤 H A mem run))
-      (k-step-at : Triple 𝓤 (𝓣 .C #step-at) (StepAt 𝓤 H A mem run)) (k-offer-call : Triple 𝓤 (𝓣 .C #offer-call)
-      (OfferCall 𝓤 H A mem run)) where
+  module _ (𝓣 : Tables 𝓤 H) (k-sheet-of : Triple 𝓤 (𝓣 .C #sheet-of) (SheetOf 𝓤 H A mem run)) (k-rows-of : Triple 𝓤
+      (𝓣 .C #rows-of) (RowsOf 𝓤 H A mem run)) (k-crew-of : Triple 𝓤 (𝓣 .C #crew-of) (CrewOf 𝓤 H A mem run))
+      (k-offer-each : Triple 𝓤 (𝓣 .C #offer-each) (OfferEach 𝓤 H A mem run)) (k-tally-of : Triple 𝓤 (𝓣 .C #tally-of)
+      (TallyOf 𝓤 H A mem run)) where
     abbrev C : Calls 𝓤 H
     C = 𝓣 .C
 
@@ -384,373 +393,6 @@ module _ {M : Type 1} (𝓤 : URA M) (H : Heap 𝓤) (A : Atoms 𝓤) (W : Given
 
     fm : FmC 𝓤 H (W .laws) C
     fm = fmOf 𝓤 H (W .laws) 𝓣
-
-    module _ (g-L9 : (wholeSteps m-piece bytes) < 2 ^ 64) (g-L12 : m-piece < 2 ^ 64)
-        (l-0 l-1 l-2 l-3 l-4 l-5 l-6 l-7 l-8 l-9 l-10 l-11 l-12 l-13 l-14 l-15 l-16 l-17 l-18 l-19 l-20 l-21 : ℕ) where
-      abbrev En : Env 𝓤 H
-      En = envOf mir′.locals (l-0 ∷ l-1 ∷ l-2 ∷ l-3 ∷ l-4 ∷ l-5 ∷ l-6 ∷ l-7 ∷ l-8 ∷ l-9 ∷ l-10 ∷ l-11 ∷ l-12 ∷ l-13
-          ∷ l-14 ∷ l-15 ∷ l-16 ∷ l-17 ∷ l-18 ∷ l-19 ∷ l-20 ∷ l-21 ∷ [])
-
-      -- what the walk has after i turns
-      abbrev At : Upto → List (Item 𝓤)
-      At i = ‵ (sees u8 b-piece o-piece m-piece κ-piece δ-piece piece) ∷ ‵ (flft κ-piece q-piece) ∷ ‵
-          (sees u8 b-log o-log m-log κ-log δ-log log) ∷ ‵ (flft κ-log q-log) ∷ ‵
-          (holds u64 b-records o-records m-records κ-records δ-records (offersOf piece log
-          (sessionOf tally records newest versions results) (i .0) .records)) ∷ ‵ (flft κ-records q-records) ∷ ‵
-          (holds u16 b-newest o-newest m-newest κ-newest δ-newest (offersOf piece log
-          (sessionOf tally records newest versions results) (i .0) .newest)) ∷ ‵ (flft κ-newest q-newest) ∷ ‵
-          (holds T.the-row b-versions o-versions m-versions κ-versions δ-versions (offersOf piece log
-          (sessionOf tally records newest versions results) (i .0) .versions)) ∷ ‵ (flft κ-versions q-versions) ∷ ‵
-          (holds u64 b-results o-results m-results κ-results δ-results (offersOf piece log
-          (sessionOf tally records newest versions results) (i .0) .results)) ∷ ‵ (flft κ-results q-results) ∷ ‵
-          (froom (τ 21) l-21 0) ∷ ‵ (fdies (τ 21) l-21) ∷ ‵ (froom (τ 20) l-20 0) ∷ ‵ (fdies (τ 20) l-20) ∷ ‵ (froom
-          (τ 19) l-19 0) ∷ ‵ (fdies (τ 19) l-19) ∷ ‵ (froom (τ 18) l-18 0) ∷ ‵ (fdies (τ 18) l-18) ∷ ‵ (froom (τ 17)
-          l-17 0) ∷ ‵ (fdies (τ 17) l-17) ∷ ‵ (froom (τ 16) l-16 0) ∷ ‵ (fdies (τ 16) l-16) ∷ ‵ (froom (τ 15) l-15 0)
-          ∷ ‵ (fdies (τ 15) l-15) ∷ ‵ (froom (τ 14) l-14 0) ∷ ‵ (fdies (τ 14) l-14) ∷ ‵ (froom (τ 13) l-13 0) ∷ ‵
-          (fdies (τ 13) l-13) ∷ ‵ (fat fullShare (τ 12) l-12 0 (vint w64 m-piece)) ∷ ‵ (fdies (τ 12) l-12) ∷ ‵ (froom
-          (τ 11) l-11 0) ∷ ‵ (fdies (τ 11) l-11) ∷ ‵ (fat fullShare (τ 10) l-10 0 (vint w64 ((i .0)))) ∷ ‵ (fdies
-          (τ 10) l-10) ∷ ‵ (fat fullShare (τ 9) l-9 0 (vint w64 (wholeSteps m-piece bytes))) ∷ ‵ (fdies (τ 9) l-9)
-          ∷ ‵ (fat fullShare (τ 8) l-8 0 (sliceVal (b-results, o-results) m-results)) ∷ ‵ (fdies (τ 8) l-8) ∷ ‵
-          (fat fullShare (τ 7) l-7 0 (sliceVal (b-versions, o-versions) m-versions)) ∷ ‵ (fdies (τ 7) l-7) ∷ ‵
-          (fat fullShare (τ 6) l-6 0 (sliceVal (b-newest, o-newest) m-newest)) ∷ ‵ (fdies (τ 6) l-6) ∷ ‵
-          (fat fullShare (τ 5) l-5 0 (sliceVal (b-records, o-records) m-records)) ∷ ‵ (fdies (τ 5) l-5) ∷ ‵
-          (fat fullShare (τ 4) l-4 0 (sliceVal (b-log, o-log) m-log)) ∷ ‵ (fdies (τ 4) l-4) ∷ ‵ (fat fullShare (τ 3)
-          l-3 0 (vint w64 bytes)) ∷ ‵ (fdies (τ 3) l-3) ∷ ‵ (fat fullShare (τ 2) l-2 0 (sliceVal (b-piece, o-piece)
-          m-piece)) ∷ ‵ (fdies (τ 2) l-2) ∷ ‵ (fat fullShare (τ 1) l-1 0 (Value.mach C′.the-type C′′.the-laws
-          (offersOf piece log (sessionOf tally records newest versions results) (i .0) .tally))) ∷ ‵ (fdies (τ 1)
-          l-1) ∷ ‵ (froom (τ 0) l-0 0) ∷ ‵ (fdies (τ 0) l-0) ∷ []
-
-      abbrev Turned : Upto → Out → SProp 𝓤
-      Turned i = afterTurn 𝓤 H (Below 𝓤 H A Nearer At i)
-          (afterBlock 𝓤 H (afterSeq 𝓤 H (Wp 𝓤 H C Λ En mir′.t-5 (atReturn 𝓤 H En Post)) (atReturn 𝓤 H En Post)))
-
-      turns : (i : Upto) → Sq W (At i) (runs C Λ En mir′.turn-1 (anyQ (Turned i)))
-      unfolding afterTurn
-      turns i =
-          assigns ! (bin ! (load ! (from ! (stop !)) (look ! 34 refl)) (load ! (from ! (stop !)) (look ! 36 refl)) tt)
-          (from ! (stop !)) (init ! 28 refl (tt, tt)) $
-          first ! $ branches ! (load ! (from ! (stop !)) (look ! 28 refl))
-          (λ less.
-          skips ! $ exec ! C Λ En (after 2 mir′.turn-1) (anyQ (Turned i)) $
-          use1 W (‵ (sees u8 b-piece o-piece m-piece κ-piece δ-piece piece) ⊛ ‵
-          (sees u8 b-piece o-piece m-piece κ-piece δ-piece piece)) (shr-slice-copy 𝓤 H A W (named 0)
-          κ-piece u8 .twice (record { ptr = (b-piece, o-piece); name = δ-piece; now = piece }) (sliceVal
-          (b-piece, o-piece) m-piece ∷ [])) $
-          split ! $
-          move ! (2 ∷ 0 ∷ []) $
-          use2 W (raw (StepAt 𝓤 H A mem run .pre (to-step-at 𝓤 H A W mem run piece ((i .0))
-          b-piece o-piece m-piece κ-piece q-piece δ-piece))) (step-at-goes 𝓤 H A W mem run piece ((i .0))
-          b-piece o-piece m-piece κ-piece q-piece δ-piece (fits i) (within m-piece bytes (i .0) (ltb→lt (i .0)
-          n less))) $
-          calls-at ! fm (StepAt 𝓤 H A mem run) k-step-at (to-step-at 𝓤 H A W mem run piece ((i .0))
-          b-piece o-piece m-piece κ-piece q-piece δ-piece) (and-then ! (load ! (from ! (stop !)) (look ! 50 refl))
-          (and-then ! (load ! (from ! (stop !)) (look ! 34 refl)) (no-more !))) (λ u2.
-          use1 W (later (some (λ (x : Unit {0}). given (step-at-said 𝓤 H A W mem run piece ((i .0))
-          b-piece o-piece m-piece κ-piece q-piece δ-piece u2 x) (‵ (flft κ-piece q-piece)))))
-          (step-at-gives 𝓤 H A W mem run piece ((i .0)) b-piece o-piece m-piece κ-piece q-piece δ-piece u2) $
-          await ! tt $ pick ! (λ x2. learn ! (λ s2.
-          land ! (from ! (stop !)) (init ! 32 refl (Value.typed P.the-type P′.the-laws 𝓤 H A W (stepAt piece ((i .0)))
-          u2 (s2))) $
-          rewrite ! 32 (λ (z : Val). ‵ (fat fullShare (τ 11) l-11 0 z)) (s2 .0) refl $
-          assigns ! (addr ! (from ! (fld ! refl (hop ! (look-in ! 44 (sub ! 0 refl (whole !))) (stop !))))) (from !
-          (stop !)) (init ! 26 refl (tt, tt)) $
-          assigns ! (agg ! (and-then ! (load ! (from ! (stop !)) (look ! 26 refl)) (and-then ! (load ! (from !
-          (fld ! refl (stop !))) (look-in ! 44 (sub ! 1 refl (whole !)))) (no-more !)))) (from ! (stop !))
-          (init ! 24 refl (tt, (tt, (record { fits = room-records .0 }, tt)))) $
-          assigns ! (addr ! (from ! (fld ! refl (hop ! (look-in ! 42 (sub ! 0 refl (whole !))) (stop !))))) (from !
-          (stop !)) (init ! 22 refl (tt, tt)) $
-          assigns ! (agg ! (and-then ! (load ! (from ! (stop !)) (look ! 22 refl)) (and-then ! (load ! (from !
-          (fld ! refl (stop !))) (look-in ! 42 (sub ! 1 refl (whole !)))) (no-more !)))) (from ! (stop !))
-          (init ! 20 refl (tt, (tt, (record { fits = room-newest .0 }, tt)))) $
-          assigns ! (addr ! (from ! (fld ! refl (hop ! (look-in ! 40 (sub ! 0 refl (whole !))) (stop !))))) (from !
-          (stop !)) (init ! 18 refl (tt, tt)) $
-          assigns ! (agg ! (and-then ! (load ! (from ! (stop !)) (look ! 18 refl)) (and-then ! (load ! (from !
-          (fld ! refl (stop !))) (look-in ! 40 (sub ! 1 refl (whole !)))) (no-more !)))) (from ! (stop !))
-          (init ! 16 refl (tt, (tt, (record { fits = room-versions .0 }, tt)))) $
-          assigns ! (addr ! (from ! (fld ! refl (hop ! (look-in ! 38 (sub ! 0 refl (whole !))) (stop !))))) (from !
-          (stop !)) (init ! 14 refl (tt, tt)) $
-          assigns ! (agg ! (and-then ! (load ! (from ! (stop !)) (look ! 14 refl)) (and-then ! (load ! (from !
-          (fld ! refl (stop !))) (look-in ! 38 (sub ! 1 refl (whole !)))) (no-more !)))) (from ! (stop !))
-          (init ! 12 refl (tt, (tt, (record { fits = room-results .0 }, tt)))) $
-          move ! (2 ∷ []) $
-          use1 W (‵ (sees u8 b-log o-log m-log κ-log δ-log log) ⊛ ‵ (sees u8 b-log o-log m-log κ-log δ-log log))
-          (shr-slice-copy 𝓤 H A W (named 0) κ-log u8 .twice (record {
-            ptr =
-                (b-log, o-log);
-            name = δ-log;
-            now = log;
-          }) (sliceVal (b-log, o-log) m-log ∷ [])) $
-          split ! $
-          move ! (5 ∷ 6 ∷ []) $
-          lend-mut 𝓤 H A W u64 b-records o-records m-records (offersOf piece log
-          (sessionOf tally records newest versions results) (i .0) .records) (i .1 .1 .1 .0)
-          room-records ! tt κ-records q-records δ-records (λ ν-stored3 δ-stored3.
-          move ! (8 ∷ 9 ∷ []) $
-          lend-mut 𝓤 H A W u16 b-newest o-newest m-newest (offersOf piece log
-          (sessionOf tally records newest versions results) (i .0) .newest) (i .1 .1 .1 .1 .0)
-          room-newest ! tt κ-newest q-newest δ-newest (λ ν-latest3 δ-latest3.
-          move ! (11 ∷ 12 ∷ []) $
-          lend-mut 𝓤 H A W T.the-row b-versions o-versions m-versions (offersOf piece log
-          (sessionOf tally records newest versions results) (i .0) .versions) (i .1 .1 .1 .1 .1 .0)
-          room-versions ! tt κ-versions q-versions δ-versions (λ ν-table3 δ-table3.
-          move ! (14 ∷ 15 ∷ []) $
-          lend-mut 𝓤 H A W u64 b-results o-results m-results (offersOf piece log
-          (sessionOf tally records newest versions results) (i .0) .results) (i .1 .1 .1 .1 .1 .1)
-          room-results ! tt κ-results q-results δ-results (λ ν-four3 δ-four3.
-          move ! (16 ∷ 12 ∷ 9 ∷ 10 ∷ 6 ∷ 7 ∷ 3 ∷ 4 ∷ 0 ∷ 1 ∷ []) $
-          use10 W (raw (OfferCall 𝓤 H A mem run .pre (to-offer-call 𝓤 H A W mem run (offersOf piece log
-          (sessionOf tally records newest versions results) (i .0) .tally) (stepAt piece ((i .0))) log
-          (offersOf piece log (sessionOf tally records newest versions results) (i .0) .records)
-          (offersOf piece log (sessionOf tally records newest versions results) (i .0) .newest) (offersOf piece log
-          (sessionOf tally records newest versions results) (i .0) .versions) (offersOf piece log
-          (sessionOf tally records newest versions results) (i .0) .results)
-          b-log o-log m-log b-records o-records m-records b-newest o-newest m-newest b-versions o-versions
-          m-versions b-results o-results m-results κ-log q-log δ-log (ν-stored3 ∷ []) fullShare δ-stored3
-          (ν-latest3 ∷ []) fullShare δ-latest3 (ν-table3 ∷ []) fullShare δ-table3 (ν-four3 ∷ [])
-          fullShare δ-four3))) (offer-call-goes 𝓤 H A W mem run (offersOf piece log
-          (sessionOf tally records newest versions results) (i .0) .tally) (stepAt piece ((i .0))) log
-          (offersOf piece log (sessionOf tally records newest versions results) (i .0) .records)
-          (offersOf piece log (sessionOf tally records newest versions results) (i .0) .newest) (offersOf piece log
-          (sessionOf tally records newest versions results) (i .0) .versions) (offersOf piece log
-          (sessionOf tally records newest versions results) (i .0) .results)
-          b-log o-log m-log b-records o-records m-records b-newest o-newest m-newest b-versions o-versions
-          m-versions b-results o-results m-results κ-log q-log δ-log (ν-stored3 ∷ []) fullShare δ-stored3
-          (ν-latest3 ∷ []) fullShare δ-latest3 (ν-table3 ∷ []) fullShare δ-table3 (ν-four3 ∷ []) fullShare δ-four3
-          (i .1 .1 .0) (s2 .1)) $
-          calls-at ! fm (OfferCall 𝓤 H A mem run) k-offer-call (to-offer-call 𝓤 H A W mem run (offersOf piece log
-          (sessionOf tally records newest versions results) (i .0) .tally) (stepAt piece ((i .0))) log
-          (offersOf piece log (sessionOf tally records newest versions results) (i .0) .records)
-          (offersOf piece log (sessionOf tally records newest versions results) (i .0) .newest) (offersOf piece log
-          (sessionOf tally records newest versions results) (i .0) .versions) (offersOf piece log
-          (sessionOf tally records newest versions results) (i .0) .results)
-          b-log o-log m-log b-records o-records m-records b-newest o-newest m-newest b-versions o-versions
-          m-versions b-results o-results m-results κ-log q-log δ-log (ν-stored3 ∷ []) fullShare δ-stored3
-          (ν-latest3 ∷ []) fullShare δ-latest3 (ν-table3 ∷ []) fullShare δ-table3 (ν-four3 ∷ []) fullShare δ-four3)
-          (and-then ! (load ! (from ! (stop !)) (look ! 48 refl)) (and-then ! (load ! (from ! (stop !))
-          (look ! 28 refl)) (and-then ! (load ! (from ! (stop !)) (look ! 42 refl)) (and-then ! (load ! (from !
-          (stop !)) (look ! 20 refl)) (and-then ! (load ! (from ! (stop !)) (look ! 16 refl)) (and-then ! (load !
-          (from ! (stop !)) (look ! 12 refl)) (and-then ! (load ! (from ! (stop !)) (look ! 8 refl))
-          (no-more !)))))))) (λ u3.
-          use1 W (later (some (λ (x : (List ℕ) × ((List ℕ) × ((List Version) × (List ℕ)))). given
-          (offer-call-said 𝓤 H A W mem run (offersOf piece log (sessionOf tally records newest versions results)
-          (i .0) .tally) (stepAt piece ((i .0))) log (offersOf piece log
-          (sessionOf tally records newest versions results) (i .0) .records) (offersOf piece log
-          (sessionOf tally records newest versions results) (i .0) .newest) (offersOf piece log
-          (sessionOf tally records newest versions results) (i .0) .versions) (offersOf piece log
-          (sessionOf tally records newest versions results) (i .0) .results)
-          b-log o-log m-log b-records o-records m-records b-newest o-newest m-newest b-versions o-versions
-          m-versions b-results o-results m-results κ-log q-log δ-log (ν-stored3 ∷ []) fullShare δ-stored3
-          (ν-latest3 ∷ []) fullShare δ-latest3 (ν-table3 ∷ []) fullShare δ-table3 (ν-four3 ∷ [])
-          fullShare δ-four3 u3 x) (‵ (flft κ-log q-log) ⊛ ‵ (flft (ν-stored3 ∷ []) fullShare) ⊛ ‵
-          (finally u64 δ-stored3 (x .0)) ⊛ ‵ (flft (ν-latest3 ∷ []) fullShare) ⊛ ‵ (finally u16 δ-latest3
-          (x .1 .0)) ⊛ ‵ (flft (ν-table3 ∷ []) fullShare) ⊛ ‵ (finally T.the-row δ-table3 (x .1 .1 .0)) ⊛ ‵
-          (flft (ν-four3 ∷ []) fullShare) ⊛ ‵ (finally u64 δ-four3 (x .1 .1 .1))))))
-          (offer-call-gives 𝓤 H A W mem run (offersOf piece log (sessionOf tally records newest versions results)
-          (i .0) .tally) (stepAt piece ((i .0))) log (offersOf piece log
-          (sessionOf tally records newest versions results) (i .0) .records) (offersOf piece log
-          (sessionOf tally records newest versions results) (i .0) .newest) (offersOf piece log
-          (sessionOf tally records newest versions results) (i .0) .versions) (offersOf piece log
-          (sessionOf tally records newest versions results) (i .0) .results)
-          b-log o-log m-log b-records o-records m-records b-newest o-newest m-newest b-versions o-versions
-          m-versions b-results o-results m-results κ-log q-log δ-log (ν-stored3 ∷ []) fullShare δ-stored3
-          (ν-latest3 ∷ []) fullShare δ-latest3 (ν-table3 ∷ []) fullShare δ-table3 (ν-four3 ∷ [])
-          fullShare δ-four3 u3) $ await ! tt $ pick ! (λ x3. learn ! (λ s3.
-          split ! $
-          move ! (1 ∷ []) $
-          split ! $
-          move ! (1 ∷ []) $
-          split ! $
-          move ! (1 ∷ []) $
-          split ! $
-          move ! (1 ∷ []) $
-          split ! $
-          move ! (1 ∷ []) $
-          split ! $
-          move ! (1 ∷ []) $
-          split ! $
-          move ! (1 ∷ []) $
-          split ! $
-          move ! (1 ∷ []) $
-          move ! (7 ∷ 6 ∷ 12 ∷ []) $
-          back-mut 𝓤 H A W u64 b-records o-records m-records (offersOf piece log
-          (sessionOf tally records newest versions results) (i .0) .records) (i .1 .1 .1 .0)
-          room-records ! tt κ-records q-records δ-records ν-stored3 δ-stored3 (x3 .0) (s3 .1 .1 .1 .1 .1 .0) (
-          rewrite ! 0 (λ (l : List ℕ). ‵ (holds u64 b-records o-records m-records κ-records δ-records l)) (s3 .1 .0)
-          refl $
-          move ! (7 ∷ 6 ∷ 11 ∷ []) $
-          back-mut 𝓤 H A W u16 b-newest o-newest m-newest (offersOf piece log
-          (sessionOf tally records newest versions results) (i .0) .newest) (i .1 .1 .1 .1 .0)
-          room-newest ! tt κ-newest q-newest δ-newest ν-latest3 δ-latest3 (x3 .1 .0) (s3 .1 .1 .1 .1 .1 .1 .0) (
-          rewrite ! 0 (λ (l : List ℕ). ‵ (holds u16 b-newest o-newest m-newest κ-newest δ-newest l)) (s3 .1 .1 .0)
-          refl $
-          move ! (7 ∷ 6 ∷ 10 ∷ []) $
-          back-mut 𝓤 H A W T.the-row b-versions o-versions m-versions (offersOf piece log
-          (sessionOf tally records newest versions results) (i .0) .versions) (i .1 .1 .1 .1 .1 .0)
-          room-versions ! tt κ-versions q-versions δ-versions ν-table3 δ-table3 (x3 .1 .1 .0)
-          (s3 .1 .1 .1 .1 .1 .1 .1 .0) (
-          rewrite ! 0 (λ (l : List Version). ‵
-          (holds T.the-row b-versions o-versions m-versions κ-versions δ-versions l)) (s3 .1 .1 .1 .0) refl $
-          move ! (7 ∷ 6 ∷ 9 ∷ []) $
-          back-mut 𝓤 H A W u64 b-results o-results m-results (offersOf piece log
-          (sessionOf tally records newest versions results) (i .0) .results) (i .1 .1 .1 .1 .1 .1)
-          room-results ! tt κ-results q-results δ-results ν-four3 δ-four3 (x3 .1 .1 .1) (s3 .1 .1 .1 .1 .1 .1 .1 .1) (
-          rewrite ! 0 (λ (l : List ℕ). ‵ (holds u64 b-results o-results m-results κ-results δ-results l))
-          (s3 .1 .1 .1 .1 .0) refl $
-          land ! (from ! (stop !)) (store ! 52 refl (Value.typed C′.the-type C′′.the-laws 𝓤 H A W (offerOf
-          (stepAt piece ((i .0))) log (sessionOf (offersOf piece log
-          (sessionOf tally records newest versions results) (i .0) .tally) (offersOf piece log
-          (sessionOf tally records newest versions results) (i .0) .records) (offersOf piece log
-          (sessionOf tally records newest versions results) (i .0) .newest) (offersOf piece log
-          (sessionOf tally records newest versions results) (i .0) .versions) (offersOf piece log
-          (sessionOf tally records newest versions results) (i .0) .results)) .tally) u3 (s3 .0))) $
-          rewrite ! 52 (λ (z : Val). ‵ (fat fullShare (τ 1) l-1 0 z)) (s3 .0 .0) refl $
-          assigns-last ! (bin ! (load ! (from ! (stop !)) (look ! 34 refl)) (lit ! tt)
-          (record { fits = fits-next less })) (from ! (stop !)) (store ! 34 refl
-          (tt, record { fits = fits-next less })) $
-          forget ! 32 refl $
-          forget ! 28 refl $
-          forget ! 26 refl $
-          forget ! 24 refl $
-          forget ! 22 refl $
-          forget ! 20 refl $
-          forget ! 18 refl $
-          forget ! 16 refl $
-          forget ! 14 refl $
-          forget ! 12 refl $
-          move ! (11 ∷ 10 ∷ 9 ∷ 8 ∷ 6 ∷ 7 ∷ 4 ∷ 5 ∷ 2 ∷ 3 ∷ 0 ∷ 1 ∷ 12 ∷ 13 ∷ 14 ∷ 15 ∷ 16 ∷ 17 ∷ 18 ∷ 19 ∷ 20 ∷ 21
-          ∷ 22 ∷ 23 ∷ 24 ∷ 25 ∷ 26 ∷ 27 ∷ 28 ∷ 29 ∷ 30 ∷ 31 ∷ 32 ∷ 33 ∷ 34 ∷ 35 ∷ 36 ∷ 37 ∷ 38 ∷ 39 ∷ 40 ∷ 41 ∷ 42
-          ∷ 43 ∷ 44 ∷ 45 ∷ 46 ∷ 47 ∷ 48 ∷ 49 ∷ 50 ∷ 51 ∷ 52 ∷ 53 ∷ 54 ∷ 55 ∷ []) $
-          rewrite ! 4 (λ (l : List ℕ). ‵ (holds u64 b-records o-records m-records κ-records δ-records l)) (refl ∙ ap
-          (λ (k : ℕ). offersOf piece log (sessionOf tally records newest versions results) k .records)
-          (sym (add-one (i .0)))) refl $
-          rewrite ! 6 (λ (l : List ℕ). ‵ (holds u16 b-newest o-newest m-newest κ-newest δ-newest l)) (refl ∙ ap
-          (λ (k : ℕ). offersOf piece log (sessionOf tally records newest versions results) k .newest) (sym (add-one
-          (i .0)))) refl $
-          rewrite ! 8 (λ (l : List Version). ‵
-          (holds T.the-row b-versions o-versions m-versions κ-versions δ-versions l)) (refl ∙ ap
-          (λ (k : ℕ). offersOf piece log (sessionOf tally records newest versions results) k .versions)
-          (sym (add-one (i .0)))) refl $
-          rewrite ! 10 (λ (l : List ℕ). ‵ (holds u64 b-results o-results m-results κ-results δ-results l)) (refl ∙ ap
-          (λ (k : ℕ). offersOf piece log (sessionOf tally records newest versions results) k .results)
-          (sym (add-one (i .0)))) refl $
-          rewrite ! 52 (λ (k : ℕ). ‵ (fat fullShare (τ 1) l-1 0 (Value.mach C′.the-type C′′.the-laws
-          (offersOf piece log (sessionOf tally records newest versions results) k .tally)))) (sym (add-one (i .0)))
-          refl $
-          again ! Nearer At i (next less (subst (λ (k : ℕ). Value.Good C′.the-type C′′.the-laws (offersOf piece log
-          (sessionOf tally records newest versions results) k .tally)) (sym (add-one (i .0))) (s3 .0 .1)) (subst
-          (λ (k : ℕ). length (offersOf piece log (sessionOf tally records newest versions results) k .records)
-          ≡ m-records) (sym (add-one (i .0))) (sym (ap (λ (l : List ℕ). length l) (s3 .1 .0))
-          ∙ s3 .1 .1 .1 .1 .1 .0 ∙ i .1 .1 .1 .0)) (subst (λ (k : ℕ). length (offersOf piece log
-          (sessionOf tally records newest versions results) k .newest) ≡ m-newest) (sym (add-one (i .0)))
-          (sym (ap (λ (l : List ℕ). length l) (s3 .1 .1 .0)) ∙ s3 .1 .1 .1 .1 .1 .1 .0 ∙ i .1 .1 .1 .1 .0)) (subst
-          (λ (k : ℕ). length (offersOf piece log (sessionOf tally records newest versions results) k .versions)
-          ≡ m-versions) (sym (add-one (i .0))) (sym (ap (λ (l : List Version). length l) (s3 .1 .1 .1 .0))
-          ∙ s3 .1 .1 .1 .1 .1 .1 .1 .0 ∙ i .1 .1 .1 .1 .1 .0)) (subst (λ (k : ℕ). length (offersOf piece log
-          (sessionOf tally records newest versions results) k .results) ≡ m-results) (sym (add-one (i .0)))
-          (sym (ap (λ (l : List ℕ). length l) (s3 .1 .1 .1 .1 .0))
-          ∙ s3 .1 .1 .1 .1 .1 .1 .1 .1 ∙ i .1 .1 .1 .1 .1 .1))) (add-one-dec n (i .0) (ltb→lt (i .0)
-          n less)))))))))))))))))
-          (λ over.
-          jumps ! $ exec ! C Λ En mir′.t-5 (atRet En Post) $
-          assigns ! (of-opd ! (load ! (from ! (stop !)) (look ! 52 refl))) (from ! (stop !)) (init ! 54 refl
-          (Value.typed C′.the-type C′′.the-laws 𝓤 H A W (offersOf piece log
-          (sessionOf tally records newest versions results) (i .0) .tally) (Value.mach C′.the-type C′′.the-laws
-          (offersOf piece log (sessionOf tally records newest versions results) (i .0) .tally)) (refl, i .1 .1 .0))) $
-          returns ! (look ! 54 refl) $
-          forget ! 54 refl $
-          forget ! 52 refl $
-          forget ! 50 refl $
-          forget ! 48 refl $
-          forget ! 46 refl $
-          forget ! 44 refl $
-          forget ! 42 refl $
-          forget ! 40 refl $
-          forget ! 38 refl $
-          forget ! 36 refl $
-          forget ! 34 refl $
-          forget ! 30 refl $
-          forget ! 28 refl $
-          move ! (54 ∷ 55 ∷ []) $
-          free1 ! $
-          move ! (52 ∷ 53 ∷ []) $
-          free1 ! $
-          move ! (50 ∷ 51 ∷ []) $
-          free1 ! $
-          move ! (48 ∷ 49 ∷ []) $
-          free1 ! $
-          move ! (46 ∷ 47 ∷ []) $
-          free1 ! $
-          move ! (44 ∷ 45 ∷ []) $
-          free1 ! $
-          move ! (42 ∷ 43 ∷ []) $
-          free1 ! $
-          move ! (40 ∷ 41 ∷ []) $
-          free1 ! $
-          move ! (38 ∷ 39 ∷ []) $
-          free1 ! $
-          move ! (36 ∷ 37 ∷ []) $
-          free1 ! $
-          move ! (34 ∷ 35 ∷ []) $
-          free1 ! $
-          move ! (32 ∷ 33 ∷ []) $
-          free1 ! $
-          move ! (30 ∷ 31 ∷ []) $
-          free1 ! $
-          move ! (28 ∷ 29 ∷ []) $
-          free1 ! $
-          move ! (26 ∷ 27 ∷ []) $
-          free1 ! $
-          move ! (24 ∷ 25 ∷ []) $
-          free1 ! $
-          move ! (22 ∷ 23 ∷ []) $
-          free1 ! $
-          move ! (20 ∷ 21 ∷ []) $
-          free1 ! $
-          move ! (18 ∷ 19 ∷ []) $
-          free1 ! $
-          move ! (16 ∷ 17 ∷ []) $
-          free1 ! $
-          move ! (14 ∷ 15 ∷ []) $
-          free1 ! $
-          move ! (12 ∷ 13 ∷ []) $
-          free1 ! $
-          free0 ! $
-          by ! (exits (offersOf piece log (sessionOf tally records newest versions results) (i .0) .tally)
-          (offersOf piece log (sessionOf tally records newest versions results) (i .0) .records)
-          (offersOf piece log (sessionOf tally records newest versions results) (i .0) .newest) (offersOf piece log
-          (sessionOf tally records newest versions results) (i .0) .versions) (offersOf piece log
-          (sessionOf tally records newest versions results) (i .0) .results) (ap (λ (k : ℕ). offersOf piece log
-          (sessionOf tally records newest versions results) k .tally) (le-antisymm (i .1 .0) (nltb→le (i .0)
-          n over)) ∙ refl) (ap (λ (k : ℕ). offersOf piece log (sessionOf tally records newest versions results)
-          k .records) (le-antisymm (i .1 .0) (nltb→le (i .0) n over)) ∙ refl) (ap (λ (k : ℕ). offersOf piece log
-          (sessionOf tally records newest versions results) k .newest) (le-antisymm (i .1 .0) (nltb→le (i .0)
-          n over)) ∙ refl) (ap (λ (k : ℕ). offersOf piece log (sessionOf tally records newest versions results)
-          k .versions) (le-antisymm (i .1 .0) (nltb→le (i .0) n over)) ∙ refl) (ap (λ (k : ℕ). offersOf piece log
-          (sessionOf tally records newest versions results) k .results) (le-antisymm (i .1 .0) (nltb→le (i .0)
-          n over)) ∙ refl) (i .1 .1 .1 .0) (i .1 .1 .1 .1 .0) (i .1 .1 .1 .1 .1 .0) (i .1 .1 .1 .1 .1 .1)
-          (i .1 .1 .0)))
-        where
-          fits : (j : Upto) → j .0 < 2 ^ 64
-          fits j = lt-of-le-of-lt (j .1 .0) g-L9
-
-          next : Holds (ltb (i .0) n) → Value.Good C′.the-type C′′.the-laws (offersOf piece log
-              (sessionOf tally records newest versions results) (i .0 + 1) .tally)
-              → length (offersOf piece log (sessionOf tally records newest versions results) (i .0 + 1) .records)
-              ≡ m-records → length (offersOf piece log (sessionOf tally records newest versions results) (i .0 + 1)
-              .newest) ≡ m-newest → length (offersOf piece log (sessionOf tally records newest versions results)
-              (i .0 + 1) .versions) ≡ m-versions
-              → length (offersOf piece log (sessionOf tally records newest versions results) (i .0 + 1) .results)
-              ≡ m-results → Upto
-          next less c-0 c-1 c-2 c-3 c-4 = (
-            i .0 + 1,
-            (
-              add-one-le (ltb→lt (i .0) n less),
-              (c-0, (c-1, (c-2, (c-3, c-4)))),
-            ),
-          )
-
-          fits-next : Holds (ltb (i .0) n) → i .0 + 1 < 2 ^ 64
-          fits-next less = lt-of-le-of-lt (add-one-le (ltb→lt (i .0) n less)) g-L9
 
     walk : ent 𝓤 (onEntry 𝓤 H A own.signature (
       κ-piece,
@@ -804,19 +446,24 @@ module _ {M : Type 1} (𝓤 : URA M) (H : Heap 𝓤) (A : Atoms 𝓤) (W : Given
         alloc1 ! (λ l-19.
         alloc1 ! (λ l-20.
         alloc1 ! (λ l-21.
+        alloc1 ! (λ l-22.
+        alloc1 ! (λ l-23.
+        alloc1 ! (λ l-24.
+        alloc1 ! (λ l-25.
+        alloc1 ! (λ l-26.
         alloc0 ! $
         params1 ! $
-        pass1 ! (init ! 40 refl (Value.typed C′.the-type C′′.the-laws 𝓤 H A W tally
+        pass1 ! (init ! 50 refl (Value.typed C′.the-type C′′.the-laws 𝓤 H A W tally
         (Value.mach C′.the-type C′′.the-laws tally) (refl, g-tally))) $
-        pass1 ! (init ! 38 refl (tt, (tt, (record { fits = room-piece .0 }, tt)))) $
-        pass1 ! (init ! 36 refl (tt, record { fits = g-bytes })) $
-        pass1 ! (init ! 34 refl (tt, (tt, (record { fits = room-log .0 }, tt)))) $
-        pass1 ! (init ! 32 refl (tt, (tt, (record { fits = room-records .0 }, tt)))) $
-        pass1 ! (init ! 30 refl (tt, (tt, (record { fits = room-newest .0 }, tt)))) $
-        pass1 ! (init ! 28 refl (tt, (tt, (record { fits = room-versions .0 }, tt)))) $
-        pass1 ! (init ! 26 refl (tt, (tt, (record { fits = room-results .0 }, tt)))) $
+        pass1 ! (init ! 48 refl (tt, (tt, (record { fits = room-piece .0 }, tt)))) $
+        pass1 ! (init ! 46 refl (tt, record { fits = g-bytes })) $
+        pass1 ! (init ! 44 refl (tt, (tt, (record { fits = room-log .0 }, tt)))) $
+        pass1 ! (init ! 42 refl (tt, (tt, (record { fits = room-records .0 }, tt)))) $
+        pass1 ! (init ! 40 refl (tt, (tt, (record { fits = room-newest .0 }, tt)))) $
+        pass1 ! (init ! 38 refl (tt, (tt, (record { fits = room-versions .0 }, tt)))) $
+        pass1 ! (init ! 36 refl (tt, (tt, (record { fits = room-results .0 }, tt)))) $
         pass0 ! $
-        move ! (45 ∷ []) $
+        move ! (55 ∷ []) $
         fsplit ! $
         drop ! $
         fsplit ! $
@@ -834,7 +481,7 @@ module _ {M : Type 1} (𝓤 : URA M) (H : Heap 𝓤) (A : Atoms 𝓤) (W : Given
         fsplit ! $
         move ! (1 ∷ []) $
         drop ! $
-        move ! (50 ∷ []) $
+        move ! (60 ∷ []) $
         split ! $
         move ! (1 ∷ []) $
         split ! $
@@ -848,34 +495,398 @@ module _ {M : Type 1} (𝓤 : URA M) (H : Heap 𝓤) (A : Atoms 𝓤) (W : Given
         split ! $
         move ! (1 ∷ []) $
         drop ! $
-        assigns ! (of-opd ! (load ! (from ! (fld ! refl (stop !))) (look-in ! 50 (sub ! 1 refl (whole !))))) (from !
-        (stop !)) (init ! 30 refl (tt, record { fits = room-piece .0 })) $
-        use0 W (raw (WholeSteps 𝓤 H A mem run .pre (to-whole-steps 𝓤 H A W mem run m-piece bytes)))
-        (whole-steps-goes 𝓤 H A W mem run m-piece bytes (room-piece .0) g-bytes) $
-        calls-at ! fm (WholeSteps 𝓤 H A mem run) k-whole-steps (to-whole-steps 𝓤 H A W mem run m-piece bytes)
-        (and-then ! (load ! (from ! (stop !)) (look ! 31 refl)) (and-then ! (load ! (from ! (stop !))
-        (look ! 49 refl)) (no-more !))) (λ u1.
-        use1 W (later (some (λ (x : Unit {0}). given (whole-steps-said 𝓤 H A W mem run m-piece bytes u1 x)
-        (raw (emp 𝓤))))) (whole-steps-gives 𝓤 H A W mem run m-piece bytes u1) $ await ! tt $
-        pick ! (λ x1. learn ! (λ s1.
+        use0 W (raw (SheetOf 𝓤 H A mem run .pre (to-sheet-of 𝓤 H A W mem run tally)))
+        (sheet-of-goes 𝓤 H A W mem run tally g-tally) $
+        calls-at ! fm (SheetOf 𝓤 H A mem run) k-sheet-of (to-sheet-of 𝓤 H A W mem run tally) (and-then ! (load !
+        (from ! (stop !)) (look ! 63 refl)) (no-more !)) (λ u1.
+        use1 W (later (some (λ (x : Unit {0}). given (sheet-of-said 𝓤 H A W mem run tally u1 x) (raw (emp 𝓤)))))
+        (sheet-of-gives 𝓤 H A W mem run tally u1) $ await ! tt $ pick ! (λ x1. learn ! (λ s1.
         drop ! $
-        land ! (from ! (stop !)) (init ! 36 refl (num-typed w64 u1 (wholeSteps m-piece bytes) (s1))) $
-        rewrite ! 36 (λ (z : Val). ‵ (fat fullShare (τ 9) l-9 0 z)) (s1 .0) refl $
-        assigns ! (of-opd ! (lit ! tt)) (from ! (stop !)) (init ! 34 refl (tt, record { fits = lit< tt })) $
-        move ! (11 ∷ 5 ∷ 10 ∷ 4 ∷ 9 ∷ 3 ∷ 8 ∷ 2 ∷ 7 ∷ 1 ∷ 6 ∷ 0 ∷ 12 ∷ 13 ∷ 14 ∷ 15 ∷ 16 ∷ 17 ∷ 18 ∷ 19 ∷ 20 ∷ 21
-        ∷ 22 ∷ 23 ∷ 24 ∷ 25 ∷ 26 ∷ 27 ∷ 28 ∷ 29 ∷ 30 ∷ 31 ∷ 32 ∷ 33 ∷ 34 ∷ 35 ∷ 36 ∷ 37 ∷ 38 ∷ 39 ∷ 40 ∷ 41 ∷ 42
-        ∷ 43 ∷ 44 ∷ 45 ∷ 46 ∷ 47 ∷ 48 ∷ 49 ∷ 50 ∷ 51 ∷ 52 ∷ 53 ∷ 54 ∷ 55 ∷ []) $
-        first ! $ blocks ! $ loops ! 𝓣 Nearer Nearer-wf (At (s1 .1) (room-piece .0)
-        l-0 l-1 l-2 l-3 l-4 l-5 l-6 l-7 l-8 l-9 l-10 l-11 l-12 l-13 l-14 l-15 l-16 l-17 l-18 l-19 l-20 l-21)
-        (turns (s1 .1) (room-piece .0) l-0 l-1 l-2 l-3 l-4 l-5 l-6 l-7 l-8 l-9 l-10 l-11 l-12 l-13 l-14 l-15 l-16
-        l-17 l-18 l-19 l-20 l-21) (0, (zero-le, (g-tally, (refl, (refl, (refl, refl)))))))))))))))))))))))))))))))
+        land ! (from ! (stop !)) (init ! 46 refl (Value.typed D.the-type D′.the-laws 𝓤 H A W (sheetOf tally) u1 (s1))) $
+        rewrite ! 46 (λ (z : Val). ‵ (fat fullShare (τ 9) l-9 0 z)) (s1 .0) refl $
+        use0 W (raw (RowsOf 𝓤 H A mem run .pre (to-rows-of 𝓤 H A W mem run tally)))
+        (rows-of-goes 𝓤 H A W mem run tally g-tally) $
+        calls-at ! fm (RowsOf 𝓤 H A mem run) k-rows-of (to-rows-of 𝓤 H A W mem run tally) (and-then ! (load ! (from !
+        (stop !)) (look ! 63 refl)) (no-more !)) (λ u2.
+        use1 W (later (some (λ (x : Unit {0}). given (rows-of-said 𝓤 H A W mem run tally u2 x) (raw (emp 𝓤)))))
+        (rows-of-gives 𝓤 H A W mem run tally u2) $ await ! tt $ pick ! (λ x2. learn ! (λ s2.
+        drop ! $
+        land ! (from ! (stop !)) (init ! 38 refl (Listed.typed R′.the-type R′′.the-laws 64 𝓤 H A W
+        (tally .state .rows) u2 (s2))) $
+        rewrite ! 38 (λ (z : Val). ‵ (fat fullShare (τ 13) l-13 0 z)) (s2 .0) refl $
+        assigns ! (of-opd ! (load ! (from ! (stop !)) (look ! 38 refl))) (from ! (stop !)) (init ! 44 refl
+        (Listed.typed R′.the-type R′′.the-laws 64 𝓤 H A W (tally .state .rows)
+        (Listed.mach R′.the-type R′′.the-laws 64 (tally .state .rows)) (refl, s2 .1))) $
+        owned ! (Array R′.the-row 64) (Is (Array R′.the-row 64)) (array-makes 𝓤 H A W R′.the-row
+        (LL.makes R′.the-type R′′.the-plain 𝓤 H A) 64) (tally .state .rows) _ (s2 .1) $
+        move ! (45 ∷ 0 ∷ []) $
+        use2 W (‵ (row R′.the-row fullShare (tally .state .rows) l-10 0)) (array-in 𝓤 H A W R′.the-row 64 l-10 0 tt
+        (tally .state .rows) (Listed.mach R′.the-type R′′.the-laws 64 (tally .state .rows))) $
+        use0 W (raw (CrewOf 𝓤 H A mem run .pre (to-crew-of 𝓤 H A W mem run tally)))
+        (crew-of-goes 𝓤 H A W mem run tally g-tally) $
+        calls-at ! fm (CrewOf 𝓤 H A mem run) k-crew-of (to-crew-of 𝓤 H A W mem run tally) (and-then ! (load ! (from !
+        (stop !)) (look ! 63 refl)) (no-more !)) (λ u3.
+        use1 W (later (some (λ (x : Unit {0}). given (crew-of-said 𝓤 H A W mem run tally u3 x) (raw (emp 𝓤)))))
+        (crew-of-gives 𝓤 H A W mem run tally u3) $ await ! tt $ pick ! (λ x3. learn ! (λ s3.
+        drop ! $
+        land ! (from ! (stop !)) (init ! 37 refl (Listed.typed W′.the-type W′′.the-laws 8 𝓤 H A W
+        (tally .state .crew) u3 (s3))) $
+        rewrite ! 37 (λ (z : Val). ‵ (fat fullShare (τ 14) l-14 0 z)) (s3 .0) refl $
+        assigns ! (of-opd ! (load ! (from ! (stop !)) (look ! 37 refl))) (from ! (stop !)) (init ! 43 refl
+        (Listed.typed W′.the-type W′′.the-laws 8 𝓤 H A W (tally .state .crew)
+        (Listed.mach W′.the-type W′′.the-laws 8 (tally .state .crew)) (refl, s3 .1))) $
+        owned ! (Array W′.the-row 8) (Is (Array W′.the-row 8)) (array-makes 𝓤 H A W W′.the-row
+        (LL.makes W′.the-type W′′.the-plain 𝓤 H A) 8) (tally .state .crew) _ (s3 .1) $
+        move ! (44 ∷ 0 ∷ []) $
+        use2 W (‵ (row W′.the-row fullShare (tally .state .crew) l-11 0)) (array-in 𝓤 H A W W′.the-row 8 l-11 0 tt
+        (tally .state .crew) (Listed.mach W′.the-type W′′.the-laws 8 (tally .state .crew))) $
+        assigns ! (addr ! (from ! (stop !))) (from ! (stop !)) (init ! 36 refl (tt, tt)) $
+        assigns ! (agg ! (and-then ! (load ! (from ! (stop !)) (look ! 36 refl)) (and-then ! (lit ! tt)
+        (no-more !)))) (from ! (stop !)) (init ! 34 refl (tt, (tt, (record { fits = lit< tt }, tt)))) $
+        assigns ! (addr ! (from ! (stop !))) (from ! (stop !)) (init ! 32 refl (tt, tt)) $
+        assigns ! (agg ! (and-then ! (load ! (from ! (stop !)) (look ! 32 refl)) (and-then ! (lit ! tt)
+        (no-more !)))) (from ! (stop !)) (init ! 30 refl (tt, (tt, (record { fits = lit< tt }, tt)))) $
+        assigns ! (addr ! (from ! (fld ! refl (hop ! (look-in ! 54 (sub ! 0 refl (whole !))) (stop !))))) (from !
+        (stop !)) (init ! 28 refl (tt, tt)) $
+        assigns ! (agg ! (and-then ! (load ! (from ! (stop !)) (look ! 28 refl)) (and-then ! (load ! (from !
+        (fld ! refl (stop !))) (look-in ! 54 (sub ! 1 refl (whole !)))) (no-more !)))) (from ! (stop !))
+        (init ! 26 refl (tt, (tt, (record { fits = room-records .0 }, tt)))) $
+        assigns ! (addr ! (from ! (fld ! refl (hop ! (look-in ! 52 (sub ! 0 refl (whole !))) (stop !))))) (from !
+        (stop !)) (init ! 24 refl (tt, tt)) $
+        assigns ! (agg ! (and-then ! (load ! (from ! (stop !)) (look ! 24 refl)) (and-then ! (load ! (from !
+        (fld ! refl (stop !))) (look-in ! 52 (sub ! 1 refl (whole !)))) (no-more !)))) (from ! (stop !))
+        (init ! 22 refl (tt, (tt, (record { fits = room-newest .0 }, tt)))) $
+        assigns ! (addr ! (from ! (fld ! refl (hop ! (look-in ! 50 (sub ! 0 refl (whole !))) (stop !))))) (from !
+        (stop !)) (init ! 20 refl (tt, tt)) $
+        assigns ! (agg ! (and-then ! (load ! (from ! (stop !)) (look ! 20 refl)) (and-then ! (load ! (from !
+        (fld ! refl (stop !))) (look-in ! 50 (sub ! 1 refl (whole !)))) (no-more !)))) (from ! (stop !))
+        (init ! 18 refl (tt, (tt, (record { fits = room-versions .0 }, tt)))) $
+        assigns ! (addr ! (from ! (fld ! refl (hop ! (look-in ! 48 (sub ! 0 refl (whole !))) (stop !))))) (from !
+        (stop !)) (init ! 16 refl (tt, tt)) $
+        assigns ! (agg ! (and-then ! (load ! (from ! (stop !)) (look ! 16 refl)) (and-then ! (load ! (from !
+        (fld ! refl (stop !))) (look-in ! 48 (sub ! 1 refl (whole !)))) (no-more !)))) (from ! (stop !))
+        (init ! 14 refl (tt, (tt, (record { fits = room-results .0 }, tt)))) $
+        move ! (13 ∷ []) $
+        use1 W (‵ (sees u8 b-piece o-piece m-piece κ-piece δ-piece piece) ⊛ ‵
+        (sees u8 b-piece o-piece m-piece κ-piece δ-piece piece)) (shr-slice-copy 𝓤 H A W (named 0)
+        κ-piece u8 .twice (record { ptr = (b-piece, o-piece); name = δ-piece; now = piece }) (sliceVal
+        (b-piece, o-piece) m-piece ∷ [])) $
+        split ! $
+        move ! (3 ∷ []) $
+        lend-own 𝓤 H A W R′.the-row l-10 0 64 (tally .state .rows) ((s2 .1) .1 .0 .1) (lit< tt, lit< tt) ! tt
+        (λ ν-queue4 δ-queue4.
+        move ! (5 ∷ []) $
+        lend-own 𝓤 H A W W′.the-row l-11 0 8 (tally .state .crew) ((s3 .1) .1 .0 .1) (lit< tt, lit< tt) ! tt
+        (λ ν-gang4 δ-gang4.
+        move ! (18 ∷ []) $
+        use1 W (‵ (sees u8 b-log o-log m-log κ-log δ-log log) ⊛ ‵ (sees u8 b-log o-log m-log κ-log δ-log log))
+        (shr-slice-copy 𝓤 H A W (named 0) κ-log u8 .twice (record {
+          ptr =
+              (b-log, o-log);
+          name = δ-log;
+          now = log;
+        }) (sliceVal (b-log, o-log) m-log ∷ [])) $
+        split ! $
+        move ! (19 ∷ 13 ∷ []) $
+        lend-mut 𝓤 H A W u64 b-records o-records m-records records (refl)
+        room-records ! tt κ-records q-records δ-records (λ ν-stored4 δ-stored4.
+        move ! (20 ∷ 15 ∷ []) $
+        lend-mut 𝓤 H A W u16 b-newest o-newest m-newest newest (refl) room-newest ! tt κ-newest q-newest δ-newest
+        (λ ν-latest4 δ-latest4.
+        move ! (21 ∷ 17 ∷ []) $
+        lend-mut 𝓤 H A W T.the-row b-versions o-versions m-versions versions (refl)
+        room-versions ! tt κ-versions q-versions δ-versions (λ ν-table4 δ-table4.
+        move ! (22 ∷ 19 ∷ []) $
+        lend-mut 𝓤 H A W u64 b-results o-results m-results results (refl)
+        room-results ! tt κ-results q-results δ-results (λ ν-four4 δ-four4.
+        move ! (23 ∷ 20 ∷ 17 ∷ 18 ∷ 14 ∷ 15 ∷ 22 ∷ 12 ∷ 9 ∷ 10 ∷ 6 ∷ 7 ∷ 3 ∷ 4 ∷ 0 ∷ 1 ∷ []) $
+        use16 W (raw (OfferEach 𝓤 H A mem run .pre (to-offer-each 𝓤 H A W mem run (sheetOf tally) piece bytes
+        (tally .state .rows) (tally .state .crew) log records newest versions results b-piece o-piece m-piece
+        l-10 0 64 l-11 0 8 b-log o-log m-log b-records o-records m-records b-newest o-newest m-newest b-versions
+        o-versions m-versions b-results o-results m-results κ-piece q-piece δ-piece (ν-queue4 ∷ [])
+        fullShare δ-queue4 (ν-gang4 ∷ []) fullShare δ-gang4 κ-log q-log δ-log (ν-stored4 ∷ [])
+        fullShare δ-stored4 (ν-latest4 ∷ []) fullShare δ-latest4 (ν-table4 ∷ []) fullShare δ-table4
+        (ν-four4 ∷ []) fullShare δ-four4))) (offer-each-goes 𝓤 H A W mem run (sheetOf tally) piece bytes
+        (tally .state .rows) (tally .state .crew) log records newest versions results b-piece o-piece m-piece
+        l-10 0 64 l-11 0 8 b-log o-log m-log b-records o-records m-records b-newest o-newest m-newest b-versions
+        o-versions m-versions b-results o-results m-results κ-piece q-piece δ-piece (ν-queue4 ∷ [])
+        fullShare δ-queue4 (ν-gang4 ∷ []) fullShare δ-gang4 κ-log q-log δ-log (ν-stored4 ∷ [])
+        fullShare δ-stored4 (ν-latest4 ∷ []) fullShare δ-latest4 (ν-table4 ∷ []) fullShare δ-table4
+        (ν-four4 ∷ []) fullShare δ-four4 (s1 .1) g-bytes) $
+        calls-at ! fm (OfferEach 𝓤 H A mem run) k-offer-each (to-offer-each 𝓤 H A W mem run (sheetOf tally)
+        piece bytes (tally .state .rows) (tally .state .crew) log records newest versions results b-piece o-piece
+        m-piece l-10 0 64 l-11 0 8 b-log o-log m-log b-records o-records m-records b-newest o-newest m-newest
+        b-versions o-versions m-versions b-results o-results m-results κ-piece q-piece δ-piece (ν-queue4 ∷ [])
+        fullShare δ-queue4 (ν-gang4 ∷ []) fullShare δ-gang4 κ-log q-log δ-log (ν-stored4 ∷ [])
+        fullShare δ-stored4 (ν-latest4 ∷ []) fullShare δ-latest4 (ν-table4 ∷ []) fullShare δ-table4
+        (ν-four4 ∷ []) fullShare δ-four4) (and-then ! (load ! (from ! (stop !)) (look ! 41 refl)) (and-then !
+        (load ! (from ! (stop !)) (look ! 55 refl)) (and-then ! (load ! (from ! (stop !)) (look ! 53 refl))
+        (and-then ! (load ! (from ! (stop !)) (look ! 29 refl)) (and-then ! (load ! (from ! (stop !))
+        (look ! 25 refl)) (and-then ! (load ! (from ! (stop !)) (look ! 51 refl)) (and-then ! (load ! (from !
+        (stop !)) (look ! 21 refl)) (and-then ! (load ! (from ! (stop !)) (look ! 17 refl)) (and-then ! (load !
+        (from ! (stop !)) (look ! 13 refl)) (and-then ! (load ! (from ! (stop !)) (look ! 9 refl))
+        (no-more !))))))))))) (λ u4.
+        use1 W (later (some (λ (x : (List Row) × ((List Worker) × ((List ℕ) × ((List ℕ) × ((List Version) ×
+        (List ℕ)))))). given (offer-each-said 𝓤 H A W mem run (sheetOf tally) piece bytes (tally .state .rows)
+        (tally .state .crew) log records newest versions results b-piece o-piece m-piece l-10 0 64 l-11 0 8 b-log
+        o-log m-log b-records o-records m-records b-newest o-newest m-newest b-versions o-versions m-versions
+        b-results o-results m-results κ-piece q-piece δ-piece (ν-queue4 ∷ []) fullShare δ-queue4 (ν-gang4 ∷ [])
+        fullShare δ-gang4 κ-log q-log δ-log (ν-stored4 ∷ []) fullShare δ-stored4 (ν-latest4 ∷ [])
+        fullShare δ-latest4 (ν-table4 ∷ []) fullShare δ-table4 (ν-four4 ∷ []) fullShare δ-four4 u4 x)
+        (‵ (flft κ-piece q-piece) ⊛ ‵ (flft (ν-queue4 ∷ []) fullShare) ⊛ ‵ (finally R′.the-row δ-queue4 (x .0))
+        ⊛ ‵ (flft (ν-gang4 ∷ []) fullShare) ⊛ ‵ (finally W′.the-row δ-gang4 (x .1 .0)) ⊛ ‵ (flft κ-log q-log) ⊛ ‵
+        (flft (ν-stored4 ∷ []) fullShare) ⊛ ‵ (finally u64 δ-stored4 (x .1 .1 .0)) ⊛ ‵ (flft (ν-latest4 ∷ [])
+        fullShare) ⊛ ‵ (finally u16 δ-latest4 (x .1 .1 .1 .0)) ⊛ ‵ (flft (ν-table4 ∷ []) fullShare) ⊛ ‵
+        (finally T.the-row δ-table4 (x .1 .1 .1 .1 .0)) ⊛ ‵ (flft (ν-four4 ∷ []) fullShare) ⊛ ‵
+        (finally u64 δ-four4 (x .1 .1 .1 .1 .1)))))) (offer-each-gives 𝓤 H A W mem run (sheetOf tally)
+        piece bytes (tally .state .rows) (tally .state .crew) log records newest versions results b-piece o-piece
+        m-piece l-10 0 64 l-11 0 8 b-log o-log m-log b-records o-records m-records b-newest o-newest m-newest
+        b-versions o-versions m-versions b-results o-results m-results κ-piece q-piece δ-piece (ν-queue4 ∷ [])
+        fullShare δ-queue4 (ν-gang4 ∷ []) fullShare δ-gang4 κ-log q-log δ-log (ν-stored4 ∷ [])
+        fullShare δ-stored4 (ν-latest4 ∷ []) fullShare δ-latest4 (ν-table4 ∷ []) fullShare δ-table4
+        (ν-four4 ∷ []) fullShare δ-four4 u4) $ await ! tt $ pick ! (λ x4. learn ! (λ s4.
+        split ! $
+        move ! (1 ∷ []) $
+        split ! $
+        move ! (1 ∷ []) $
+        split ! $
+        move ! (1 ∷ []) $
+        split ! $
+        move ! (1 ∷ []) $
+        split ! $
+        move ! (1 ∷ []) $
+        split ! $
+        move ! (1 ∷ []) $
+        split ! $
+        move ! (1 ∷ []) $
+        split ! $
+        move ! (1 ∷ []) $
+        split ! $
+        move ! (1 ∷ []) $
+        split ! $
+        move ! (1 ∷ []) $
+        split ! $
+        move ! (1 ∷ []) $
+        split ! $
+        move ! (1 ∷ []) $
+        split ! $
+        move ! (1 ∷ []) $
+        move ! (12 ∷ 11 ∷ 20 ∷ []) $
+        back-own 𝓤 H A W R′.the-row l-10 0 64 (tally .state .rows) ((s2 .1) .1 .0 .1) (lit< tt, lit< tt)
+        ! tt ν-queue4 δ-queue4 (x4 .0) (
+        rewrite ! 0 (λ (l : List Row). ‵ (row R′.the-row fullShare l l-10 0)) (s4 .1 .0) refl $
+        move ! (11 ∷ 10 ∷ 18 ∷ []) $
+        back-own 𝓤 H A W W′.the-row l-11 0 8 (tally .state .crew) ((s3 .1) .1 .0 .1) (lit< tt, lit< tt)
+        ! tt ν-gang4 δ-gang4 (x4 .1 .0) (
+        rewrite ! 0 (λ (l : List Worker). ‵ (row W′.the-row fullShare l l-11 0)) (s4 .1 .1 .0) refl $
+        move ! (9 ∷ 8 ∷ 15 ∷ []) $
+        back-mut 𝓤 H A W u64 b-records o-records m-records records (refl)
+        room-records ! tt κ-records q-records δ-records ν-stored4 δ-stored4 (x4 .1 .1 .0)
+        (s4 .1 .1 .1 .1 .1 .1 .1 .1 .1 .0) (
+        rewrite ! 0 (λ (l : List ℕ). ‵ (holds u64 b-records o-records m-records κ-records δ-records l))
+        (s4 .1 .1 .1 .0) refl $
+        move ! (9 ∷ 8 ∷ 14 ∷ []) $
+        back-mut 𝓤 H A W u16 b-newest o-newest m-newest newest (refl) room-newest ! tt κ-newest q-newest δ-newest
+        ν-latest4 δ-latest4 (x4 .1 .1 .1 .0) (s4 .1 .1 .1 .1 .1 .1 .1 .1 .1 .1 .0) (
+        rewrite ! 0 (λ (l : List ℕ). ‵ (holds u16 b-newest o-newest m-newest κ-newest δ-newest l))
+        (s4 .1 .1 .1 .1 .0) refl $
+        move ! (9 ∷ 8 ∷ 13 ∷ []) $
+        back-mut 𝓤 H A W T.the-row b-versions o-versions m-versions versions (refl)
+        room-versions ! tt κ-versions q-versions δ-versions ν-table4 δ-table4 (x4 .1 .1 .1 .1 .0)
+        (s4 .1 .1 .1 .1 .1 .1 .1 .1 .1 .1 .1 .0) (
+        rewrite ! 0 (λ (l : List Version). ‵
+        (holds T.the-row b-versions o-versions m-versions κ-versions δ-versions l)) (s4 .1 .1 .1 .1 .1 .0) refl $
+        move ! (9 ∷ 8 ∷ 12 ∷ []) $
+        back-mut 𝓤 H A W u64 b-results o-results m-results results (refl)
+        room-results ! tt κ-results q-results δ-results ν-four4 δ-four4 (x4 .1 .1 .1 .1 .1)
+        (s4 .1 .1 .1 .1 .1 .1 .1 .1 .1 .1 .1 .1) (
+        rewrite ! 0 (λ (l : List ℕ). ‵ (holds u64 b-results o-results m-results κ-results δ-results l))
+        (s4 .1 .1 .1 .1 .1 .1 .0) refl $
+        land ! (from ! (stop !)) (init ! 42 refl (Value.typed D.the-type D′.the-laws 𝓤 H A W (sheetOf
+        (runOf piece bytes log (sessionOf (tallyOf (sheetOf tally) (tally .state .rows) (tally .state .crew))
+        records newest versions results) .tally)) u4 (s4 .0))) $
+        rewrite ! 42 (λ (z : Val). ‵ (fat fullShare (τ 12) l-12 0 z)) (s4 .0 .0) refl $
+        move ! (9 ∷ []) $
+        use1 W (given (Listed.Good R′.the-type R′′.the-laws 64 (runOf piece bytes log (sessionOf (tallyOf
+        (sheetOf tally) (tally .state .rows) (tally .state .crew)) records newest versions results)
+        .tally .state .rows)) (‵ (fat fullShare (τ 10) l-10 0 (Listed.mach R′.the-type R′′.the-laws 64
+        (runOf piece bytes log (sessionOf (tallyOf (sheetOf tally) (tally .state .rows) (tally .state .crew))
+        records newest versions results) .tally .state .rows))))) (Listed.array-back R′.the-type R′′.the-laws 64
+        𝓤 H A W l-10 0 (runOf piece bytes log (sessionOf (tallyOf (sheetOf tally) (tally .state .rows)
+        (tally .state .crew)) records newest versions results) .tally .state .rows)
+        (sym (ap (λ (l : List Row). length l) (s4 .1 .0)) ∙ s4 .1 .1 .1 .1 .1 .1 .1 .0 ∙ (s2 .1) .1 .0 .1)) $
+        learn ! (λ whole-10.
+        assigns ! (of-opd ! (load ! (from ! (stop !)) (look ! 0 refl))) (from ! (stop !)) (store ! 40 refl
+        (Listed.typed R′.the-type R′′.the-laws 64 𝓤 H A W (runOf piece bytes log (sessionOf (tallyOf
+        (sheetOf tally) (tally .state .rows) (tally .state .crew)) records newest versions results)
+        .tally .state .rows) (Listed.mach R′.the-type R′′.the-laws 64 (runOf piece bytes log (sessionOf (tallyOf
+        (sheetOf tally) (tally .state .rows) (tally .state .crew)) records newest versions results)
+        .tally .state .rows)) (refl, whole-10))) $
+        move ! (9 ∷ []) $
+        use1 W (given (Listed.Good W′.the-type W′′.the-laws 8 (runOf piece bytes log (sessionOf (tallyOf
+        (sheetOf tally) (tally .state .rows) (tally .state .crew)) records newest versions results)
+        .tally .state .crew)) (‵ (fat fullShare (τ 11) l-11 0 (Listed.mach W′.the-type W′′.the-laws 8
+        (runOf piece bytes log (sessionOf (tallyOf (sheetOf tally) (tally .state .rows) (tally .state .crew))
+        records newest versions results) .tally .state .crew))))) (Listed.array-back W′.the-type W′′.the-laws 8 𝓤
+        H A W l-11 0 (runOf piece bytes log (sessionOf (tallyOf (sheetOf tally) (tally .state .rows)
+        (tally .state .crew)) records newest versions results) .tally .state .crew)
+        (sym (ap (λ (l : List Worker). length l) (s4 .1 .1 .0)) ∙ s4 .1 .1 .1 .1 .1 .1 .1 .1 .0 ∙ (s3 .1)
+        .1 .0 .1)) $ learn ! (λ whole-11.
+        assigns ! (of-opd ! (load ! (from ! (stop !)) (look ! 0 refl))) (from ! (stop !)) (store ! 38 refl
+        (Listed.typed W′.the-type W′′.the-laws 8 𝓤 H A W (runOf piece bytes log (sessionOf (tallyOf
+        (sheetOf tally) (tally .state .rows) (tally .state .crew)) records newest versions results)
+        .tally .state .crew) (Listed.mach W′.the-type W′′.the-laws 8 (runOf piece bytes log (sessionOf (tallyOf
+        (sheetOf tally) (tally .state .rows) (tally .state .crew)) records newest versions results)
+        .tally .state .crew)) (refl, whole-11))) $
+        use0 W (raw (TallyOf 𝓤 H A mem run .pre (to-tally-of 𝓤 H A W mem run (sheetOf (runOf piece bytes log
+        (sessionOf (tallyOf (sheetOf tally) (tally .state .rows) (tally .state .crew))
+        records newest versions results) .tally)) (runOf piece bytes log (sessionOf (tallyOf (sheetOf tally)
+        (tally .state .rows) (tally .state .crew)) records newest versions results) .tally .state .rows)
+        (runOf piece bytes log (sessionOf (tallyOf (sheetOf tally) (tally .state .rows) (tally .state .crew))
+        records newest versions results) .tally .state .crew)))) (tally-of-goes 𝓤 H A W mem run (sheetOf
+        (runOf piece bytes log (sessionOf (tallyOf (sheetOf tally) (tally .state .rows) (tally .state .crew))
+        records newest versions results) .tally)) (runOf piece bytes log (sessionOf (tallyOf (sheetOf tally)
+        (tally .state .rows) (tally .state .crew)) records newest versions results) .tally .state .rows)
+        (runOf piece bytes log (sessionOf (tallyOf (sheetOf tally) (tally .state .rows) (tally .state .crew))
+        records newest versions results) .tally .state .crew) (s4 .0 .1) whole-10 whole-11) $
+        calls-at ! fm (TallyOf 𝓤 H A mem run) k-tally-of (to-tally-of 𝓤 H A W mem run (sheetOf (runOf piece bytes log
+        (sessionOf (tallyOf (sheetOf tally) (tally .state .rows) (tally .state .crew))
+        records newest versions results) .tally)) (runOf piece bytes log (sessionOf (tallyOf (sheetOf tally)
+        (tally .state .rows) (tally .state .crew)) records newest versions results) .tally .state .rows)
+        (runOf piece bytes log (sessionOf (tallyOf (sheetOf tally) (tally .state .rows) (tally .state .crew))
+        records newest versions results) .tally .state .crew)) (and-then ! (load ! (from ! (stop !))
+        (look ! 43 refl)) (and-then ! (load ! (from ! (stop !)) (look ! 41 refl)) (and-then ! (load ! (from !
+        (stop !)) (look ! 39 refl)) (no-more !)))) (λ u5.
+        use1 W (later (some (λ (x : Unit {0}). given (tally-of-said 𝓤 H A W mem run (sheetOf (runOf piece bytes log
+        (sessionOf (tallyOf (sheetOf tally) (tally .state .rows) (tally .state .crew))
+        records newest versions results) .tally)) (runOf piece bytes log (sessionOf (tallyOf (sheetOf tally)
+        (tally .state .rows) (tally .state .crew)) records newest versions results) .tally .state .rows)
+        (runOf piece bytes log (sessionOf (tallyOf (sheetOf tally) (tally .state .rows) (tally .state .crew))
+        records newest versions results) .tally .state .crew) u5 x) (raw (emp 𝓤)))))
+        (tally-of-gives 𝓤 H A W mem run (sheetOf (runOf piece bytes log (sessionOf (tallyOf (sheetOf tally)
+        (tally .state .rows) (tally .state .crew)) records newest versions results) .tally))
+        (runOf piece bytes log (sessionOf (tallyOf (sheetOf tally) (tally .state .rows) (tally .state .crew))
+        records newest versions results) .tally .state .rows) (runOf piece bytes log (sessionOf (tallyOf
+        (sheetOf tally) (tally .state .rows) (tally .state .crew)) records newest versions results)
+        .tally .state .crew) u5) $ await ! tt $ pick ! (λ x5. learn ! (λ s5.
+        drop ! $
+        land ! (from ! (stop !)) (init ! 64 refl (Value.typed C′.the-type C′′.the-laws 𝓤 H A W (tallyOf (sheetOf
+        (runOf piece bytes log (sessionOf (tallyOf (sheetOf tally) (tally .state .rows) (tally .state .crew))
+        records newest versions results) .tally)) (runOf piece bytes log (sessionOf (tallyOf (sheetOf tally)
+        (tally .state .rows) (tally .state .crew)) records newest versions results) .tally .state .rows)
+        (runOf piece bytes log (sessionOf (tallyOf (sheetOf tally) (tally .state .rows) (tally .state .crew))
+        records newest versions results) .tally .state .crew)) u5 (s5))) $
+        rewrite ! 64 (λ (z : Val). ‵ (fat fullShare (τ 0) l-0 0 z)) (s5 .0) refl $
+        returns ! (look ! 64 refl) $
+        forget ! 64 refl $
+        forget ! 62 refl $
+        forget ! 60 refl $
+        forget ! 58 refl $
+        forget ! 56 refl $
+        forget ! 54 refl $
+        forget ! 52 refl $
+        forget ! 50 refl $
+        forget ! 48 refl $
+        forget ! 46 refl $
+        forget ! 1 refl $
+        forget ! 0 refl $
+        forget ! 42 refl $
+        forget ! 40 refl $
+        forget ! 38 refl $
+        forget ! 36 refl $
+        forget ! 34 refl $
+        forget ! 32 refl $
+        forget ! 30 refl $
+        forget ! 28 refl $
+        forget ! 26 refl $
+        forget ! 24 refl $
+        forget ! 22 refl $
+        forget ! 20 refl $
+        forget ! 18 refl $
+        forget ! 16 refl $
+        forget ! 14 refl $
+        move ! (64 ∷ 65 ∷ []) $
+        free1 ! $
+        move ! (62 ∷ 63 ∷ []) $
+        free1 ! $
+        move ! (60 ∷ 61 ∷ []) $
+        free1 ! $
+        move ! (58 ∷ 59 ∷ []) $
+        free1 ! $
+        move ! (56 ∷ 57 ∷ []) $
+        free1 ! $
+        move ! (54 ∷ 55 ∷ []) $
+        free1 ! $
+        move ! (52 ∷ 53 ∷ []) $
+        free1 ! $
+        move ! (50 ∷ 51 ∷ []) $
+        free1 ! $
+        move ! (48 ∷ 49 ∷ []) $
+        free1 ! $
+        move ! (46 ∷ 47 ∷ []) $
+        free1 ! $
+        move ! (1 ∷ 45 ∷ []) $
+        free1 ! $
+        move ! (0 ∷ 43 ∷ []) $
+        free1 ! $
+        move ! (40 ∷ 41 ∷ []) $
+        free1 ! $
+        move ! (38 ∷ 39 ∷ []) $
+        free1 ! $
+        move ! (36 ∷ 37 ∷ []) $
+        free1 ! $
+        move ! (34 ∷ 35 ∷ []) $
+        free1 ! $
+        move ! (32 ∷ 33 ∷ []) $
+        free1 ! $
+        move ! (30 ∷ 31 ∷ []) $
+        free1 ! $
+        move ! (28 ∷ 29 ∷ []) $
+        free1 ! $
+        move ! (26 ∷ 27 ∷ []) $
+        free1 ! $
+        move ! (24 ∷ 25 ∷ []) $
+        free1 ! $
+        move ! (22 ∷ 23 ∷ []) $
+        free1 ! $
+        move ! (20 ∷ 21 ∷ []) $
+        free1 ! $
+        move ! (18 ∷ 19 ∷ []) $
+        free1 ! $
+        move ! (16 ∷ 17 ∷ []) $
+        free1 ! $
+        move ! (14 ∷ 15 ∷ []) $
+        free1 ! $
+        move ! (12 ∷ 13 ∷ []) $
+        free1 ! $
+        free0 ! $
+        move ! (11 ∷ 9 ∷ 10 ∷ 8 ∷ 6 ∷ 7 ∷ 4 ∷ 5 ∷ 2 ∷ 3 ∷ 0 ∷ 1 ∷ []) $
+        by ! (exits (tallyOf (sheetOf (runOf piece bytes log (sessionOf (tallyOf (sheetOf tally) (tally .state .rows)
+        (tally .state .crew)) records newest versions results) .tally)) (runOf piece bytes log (sessionOf
+        (tallyOf (sheetOf tally) (tally .state .rows) (tally .state .crew)) records newest versions results)
+        .tally .state .rows) (runOf piece bytes log (sessionOf (tallyOf (sheetOf tally) (tally .state .rows)
+        (tally .state .crew)) records newest versions results) .tally .state .crew)) (runOf piece bytes log
+        (sessionOf (tallyOf (sheetOf tally) (tally .state .rows) (tally .state .crew))
+        records newest versions results) .records) (runOf piece bytes log (sessionOf (tallyOf (sheetOf tally)
+        (tally .state .rows) (tally .state .crew)) records newest versions results) .newest)
+        (runOf piece bytes log (sessionOf (tallyOf (sheetOf tally) (tally .state .rows) (tally .state .crew))
+        records newest versions results) .versions) (runOf piece bytes log (sessionOf (tallyOf (sheetOf tally)
+        (tally .state .rows) (tally .state .crew)) records newest versions results) .results)
+        refl refl refl refl refl (sym (ap (λ (l : List ℕ). length l) (s4 .1 .1 .1 .0))
+        ∙ s4 .1 .1 .1 .1 .1 .1 .1 .1 .1 .0 ∙ refl) (sym (ap (λ (l : List ℕ). length l) (s4 .1 .1 .1 .1 .0))
+        ∙ s4 .1 .1 .1 .1 .1 .1 .1 .1 .1 .1 .0 ∙ refl) (sym (ap (λ (l : List Version). length l)
+        (s4 .1 .1 .1 .1 .1 .0)) ∙ s4 .1 .1 .1 .1 .1 .1 .1 .1 .1 .1 .1 .0 ∙ refl)
+        (sym (ap (λ (l : List ℕ). length l) (s4 .1 .1 .1 .1 .1 .1 .0))
+        ∙ s4 .1 .1 .1 .1 .1 .1 .1 .1 .1 .1 .1 .1 ∙ refl)
+        (s5 .1))))))))))))))))))))))))))))))))))))))))))))))))))))))))))
 
 module _ {M : Type 1} (𝓤 : URA M) (H : Heap 𝓤) (A : Atoms 𝓤) (W : Given 𝓤 H A) (mem : Memory
     → SProp 𝓤) (run : Routine → Fun 𝓤) where
-  own-walks : (𝓣 : Tables 𝓤 H) → Triple 𝓤 (𝓣 .C #whole-steps) (WholeSteps 𝓤 H A mem run)
-      → Triple 𝓤 (𝓣 .C #step-at) (StepAt 𝓤 H A mem run) → Triple 𝓤 (𝓣 .C #offer-call) (OfferCall 𝓤 H A mem run)
+  own-walks : (𝓣 : Tables 𝓤 H) → Triple 𝓤 (𝓣 .C #sheet-of) (SheetOf 𝓤 H A mem run)
+      → Triple 𝓤 (𝓣 .C #rows-of) (RowsOf 𝓤 H A mem run) → Triple 𝓤 (𝓣 .C #crew-of) (CrewOf 𝓤 H A mem run)
+      → Triple 𝓤 (𝓣 .C #offer-each) (OfferEach 𝓤 H A mem run) → Triple 𝓤 (𝓣 .C #tally-of) (TallyOf 𝓤 H A mem run)
       → Walks 𝓤 H A own.ended stayed (WpFn 𝓤 H (𝓣 .C) (𝓣 .Λ) code.function) (own.clauses 𝓤 H A mem run)
-  own-walks 𝓣 k-whole-steps k-step-at k-offer-call =
+  own-walks 𝓣 k-sheet-of k-rows-of k-crew-of k-offer-each k-tally-of =
       walked 𝓤 H A own.ended stayed (own.clauses 𝓤 H A mem run) (WpFn 𝓤 H (𝓣 .C) (𝓣 .Λ) code.function) (λ κs. (
         LL.vals C′.the-type C′′.the-laws,
         (
@@ -930,13 +941,15 @@ module _ {M : Type 1} (𝓤 : URA M) (H : Heap 𝓤) (A : Atoms 𝓤) (W : Given
       (a .1 .1 .1 .1 .1 .1 .0 .now) (a .1 .1 .1 .1 .1 .1 .1 .0 .ptr .0) (a .1 .1 .1 .1 .1 .1 .1 .0 .ptr .1)
       (a .1 .1 .1 .1 .1 .1 .1 .0 .name) (a .1 .1 .1 .1 .1 .1 .1 .0 .now) (are .0) (are .1 .0 .0 .1)
       (are .1 .1 .0 .1) (are .1 .1 .1 .0 .0 .1) (are .1 .1 .1 .1 .0 .0 .1) (are .1 .1 .1 .1 .1 .0 .0 .1)
-      (are .1 .1 .1 .1 .1 .1 .0 .0 .1) (are .1 .1 .1 .1 .1 .1 .1 .0 .0 .1) 𝓣 k-whole-steps k-step-at k-offer-call))
+      (are .1 .1 .1 .1 .1 .1 .0 .0 .1) (are .1 .1 .1 .1 .1 .1 .1 .0 .0 .1)
+      𝓣 k-sheet-of k-rows-of k-crew-of k-offer-each k-tally-of))
 
 own-meets : {M : Type 1} (𝓤 : URA M) (H : Heap 𝓤) (A : Atoms 𝓤) → Given 𝓤 H A → (mem : Memory
-    → SProp 𝓤) (run : Routine → Fun 𝓤) (𝓣 : Tables 𝓤 H) → Triple 𝓤 (𝓣 .C #whole-steps) (WholeSteps 𝓤 H A mem run)
-    → Triple 𝓤 (𝓣 .C #step-at) (StepAt 𝓤 H A mem run) → Triple 𝓤 (𝓣 .C #offer-call) (OfferCall 𝓤 H A mem run)
+    → SProp 𝓤) (run : Routine → Fun 𝓤) (𝓣 : Tables 𝓤 H) → Triple 𝓤 (𝓣 .C #sheet-of) (SheetOf 𝓤 H A mem run)
+    → Triple 𝓤 (𝓣 .C #rows-of) (RowsOf 𝓤 H A mem run) → Triple 𝓤 (𝓣 .C #crew-of) (CrewOf 𝓤 H A mem run)
+    → Triple 𝓤 (𝓣 .C #offer-each) (OfferEach 𝓤 H A mem run) → Triple 𝓤 (𝓣 .C #tally-of) (TallyOf 𝓤 H A mem run)
     → Meets 𝓤 H A own.signature (WpFn 𝓤 H (𝓣 .C) (𝓣 .Λ) code.function) (own.spec 𝓤 H A mem run)
-own-meets 𝓤 H A W mem run 𝓣 k-whole-steps k-step-at k-offer-call =
+own-meets 𝓤 H A W mem run 𝓣 k-sheet-of k-rows-of k-crew-of k-offer-each k-tally-of =
     walk-meets 𝓤 H A own.ended stayed W (
       goes-none 𝓤 H A W 6 (λ _. C′.the-row) yes (λ κs x f.
           refl),
@@ -967,7 +980,7 @@ own-meets 𝓤 H A W mem run 𝓣 k-whole-steps k-step-at k-offer-call =
         ),
       ),
     ) (own.clauses 𝓤 H A mem run) (WpFn 𝓤 H (𝓣 .C) (𝓣 .Λ) code.function) (WpFn-mono 𝓤 H (W .laws)
-    𝓣 code.function) (own-walks 𝓤 H A W mem run 𝓣 k-whole-steps k-step-at k-offer-call)
+    𝓣 code.function) (own-walks 𝓤 H A W mem run 𝓣 k-sheet-of k-rows-of k-crew-of k-offer-each k-tally-of)
 
 pub offer-all-spec : {M : Type 1} → stated.statement M
 unfolding code.routine tablesOf
@@ -975,9 +988,13 @@ offer-all-spec 𝓤 H 𝓜 𝓖 𝓡 =
     entered 𝓤 H (tripleOf 𝓤 H (𝓖 .A) own.signature (own.spec 𝓤 H (𝓖 .A) (𝓜 .mem) (𝓡 .run)))
     (tables 𝓤 H 𝓜 𝓡 code.env .C) (tables 𝓤 H 𝓜 𝓡 code.env .Λ) #own code.function (code.unfolded 𝓤 H 𝓜 𝓡)
     (own-meets 𝓤 H (𝓖 .A) (givenOf 𝓤 H 𝓜 𝓖) (𝓜 .mem) (𝓡 .run) (tablesOf 𝓤 H 𝓜 (tables 𝓤 H 𝓜 𝓡 code.env))
-    (cited 𝓤 H (WholeSteps 𝓤 H (𝓖 .A) (𝓜 .mem) (𝓡 .run)) 𝓜 𝓡 code.env #whole-steps whole-steps-def.routine
-    code.calls-desk·steps·whole-steps (whole-steps-thm.met 𝓤 H 𝓜 𝓖 𝓡))
-    (cited 𝓤 H (StepAt 𝓤 H (𝓖 .A) (𝓜 .mem) (𝓡 .run)) 𝓜 𝓡 code.env #step-at step-at-def.routine
-    code.calls-desk·steps·step-at (step-at-thm.met 𝓤 H 𝓜 𝓖 𝓡))
-    (cited 𝓤 H (OfferCall 𝓤 H (𝓖 .A) (𝓜 .mem) (𝓡 .run)) 𝓜 𝓡 code.env #offer-call offer-call-def.routine
-    code.calls-desk·offering·offer (offer-call-thm.met 𝓤 H 𝓜 𝓖 𝓡)))
+    (cited 𝓤 H (SheetOf 𝓤 H (𝓖 .A) (𝓜 .mem) (𝓡 .run)) 𝓜 𝓡 code.env #sheet-of sheet-of-def.routine
+    code.calls-desk·lending·sheet-of (sheet-of-thm.met 𝓤 H 𝓜 𝓖 𝓡))
+    (cited 𝓤 H (RowsOf 𝓤 H (𝓖 .A) (𝓜 .mem) (𝓡 .run)) 𝓜 𝓡 code.env #rows-of rows-of-def.routine
+    code.calls-desk·lending·rows-of (rows-of-thm.met 𝓤 H 𝓜 𝓖 𝓡))
+    (cited 𝓤 H (CrewOf 𝓤 H (𝓖 .A) (𝓜 .mem) (𝓡 .run)) 𝓜 𝓡 code.env #crew-of crew-of-def.routine
+    code.calls-desk·lending·crew-of (crew-of-thm.met 𝓤 H 𝓜 𝓖 𝓡))
+    (cited 𝓤 H (OfferEach 𝓤 H (𝓖 .A) (𝓜 .mem) (𝓡 .run)) 𝓜 𝓡 code.env #offer-each offer-each-def.routine
+    code.calls-desk·lending·offer-each (offer-each-thm.met 𝓤 H 𝓜 𝓖 𝓡))
+    (cited 𝓤 H (TallyOf 𝓤 H (𝓖 .A) (𝓜 .mem) (𝓡 .run)) 𝓜 𝓡 code.env #tally-of tally-of-def.routine
+    code.calls-desk·lending·tally-of (tally-of-thm.met 𝓤 H 𝓜 𝓖 𝓡)))
