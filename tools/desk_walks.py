@@ -1,4 +1,5 @@
-# What tools/callee.py and tools/straight.py need to know of the crate `desk`. After a change of its code:
+# What tools/callee.py and tools/straight.py need to know of the crate `desk`, but for what goes by lent transactions and
+# workers (tools/lending_walks.py, `offer_all` among it). After a change of its code:
 #   rt mir desk > MIR; for each FILE of Engine, Steps, Counts, Offering: python3 tools/callee.py
 #   tools/desk_walks.py (HERE).FILE > crates/desk/proofs/Laws/Calls/FILE.antt;
 #   for each FN of FUNCS: python3 tools/straight.py tools/desk_walks.py MIR FN > (its Proof.antt);
@@ -152,14 +153,6 @@ FUNCS = {
                       ('seal', 'off off2 off3 on4'), ('none', 'off off2 off3 off4'))],
                   uses=['Rattle.desk.specs.LawsOffer.{offer-place, offer-claim, offer-advance, offer-seal, '
                         'offer-none}']),
-    'offer_all': dict(path='offering.offer_all', calls=['whole-steps', 'step-at', 'offer-call'],
-                      params=[('tally', 'Tally'), ('piece', 'shr u8'), ('bytes', 'usize')] + LENT,
-                      facts=parts('runOf piece bytes log ' + SESSION),
-                      uses=['Rattle.desk.specs.LawsSteps.{within}'],
-                      loop=dict(index=10, count='wholeSteps m-piece bytes', fits='g-L9',
-                                locals={1: 'offersOf piece log %s {i} .tally' % SESSION},
-                                slices={p: ('offersOf piece log %s {i} .%s' % (SESSION, p), None, 'refl')
-                                        for p in PARTS})),
 }
 for f in FUNCS.values():
     f['crate'] = 'desk'
