@@ -35,7 +35,7 @@ def sensible_step(chance, state, order):
         return step_bytes(SEAL, chance.choice((0, 0, 1, 255)))
     idle = [w for w in range(state.W) if is_idle(state.crew[w])]
     busy = [w for w in range(state.W) if w not in idle]
-    free = [i for i in range(state.size) if state.rows[i] == Unprocessed()]
+    free = [i for i in range(state.size) if isinstance(state.rows[i], Unprocessed)]
     if idle and free and (not busy or chance.random() < 0.4):
         return step_bytes(CLAIM, chance.choice(idle), order(chance, free))
     return step_bytes(ADVANCE, chance.choice(busy))

@@ -9,7 +9,7 @@ no run reaches.
 """
 
 from dataclasses import dataclass, replace
-from functools import wraps
+from functools import cache, wraps
 
 from counters import decide
 from packed import ENTRY_LENGTH, LARGEST_N, decode, first_refusal, part, read_set, write_set
@@ -233,17 +233,17 @@ def worker_out_of_range(state, w):
             or state.rows[worker.transaction] != Executing(w))
 
 
-def row_out_of_range(state, i):
+def row_out_of_range(state):
     """14: "a transaction below n Executing by a worker that does not hold it"."""
-    row = state.rows[i]
-    return isinstance(row, Executing) and not holds(state, row.worker, i)
+    return any(isinstance(row, Executing) and not holds(state, row.worker, i)
+               for i, row in enumerate(state.rows[: state.size]))
 
 
 def check_state(state):
     refuse_if(number_out_of_range(state), 14)
     refuse_if(placed_out_of_range(state), 14)
     refuse_if(any(worker_out_of_range(state, w) for w in range(LARGEST_W)), 14)
-    refuse_if(any(row_out_of_range(state, i) for i in range(state.size)), 14)
+    refuse_if(row_out_of_range(state), 14)
 
 
 # Moments, for check 9 -------------------------------------------------------
@@ -269,12 +269,17 @@ def check_log(state, log):
     refuse_if(len(log) != ENTRY_LENGTH * state.size, 2)
 
 
+@cache       # every step looks at an entry again, and says the same of it
+def judged(N, entry):
+    """The first of 4 to 8 that the entry fails, or None; its meaning."""
+    return first_refusal(N, entry), decode(entry)
+
+
 def check_transaction(state, log, i):
     """Transaction i's 4 to 8; its meaning."""
-    entry = part(log, 0, ENTRY_LENGTH, i)
-    number = first_refusal(state.N, entry)
+    number, meaning = judged(state.N, part(log, 0, ENTRY_LENGTH, i))
     refuse_if(number is not None, number, i)
-    return decode(entry)
+    return meaning
 
 
 # Making and opening ---------------------------------------------------------

@@ -59,7 +59,7 @@ def row_code(row):
 def rows_numbers(rows):
     numbers = []
     for index, row in enumerate(rows):
-        if row != Unprocessed():
+        if not isinstance(row, Unprocessed):
             numbers += [index, row_code(row)]
     return numbers + [END_OF_ROWS]
 
@@ -93,7 +93,7 @@ def sparse(table, usual, numbers_of):
     """The length, then index and numbers of each entry that is not the usual one."""
     numbers = [len(table)]
     for index, entry in enumerate(table):
-        if entry != usual:
+        if entry is not usual and entry != usual:    # most are the very same
             numbers += [index, *numbers_of(entry)]
     return numbers
 

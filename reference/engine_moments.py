@@ -181,7 +181,7 @@ def useful_steps(state):
     if not is_planned(state):
         return [("place", p) for p in range(state.P) if state.placed[p] < state.size]
     idle = [w for w in range(state.W) if is_idle(state.crew[w])]
-    free = [i for i in range(state.size) if state.rows[i] == Unprocessed()]
+    free = [i for i in range(state.size) if isinstance(state.rows[i], Unprocessed)]
     steps = [("claim", w, i) for w in idle for i in free]
     steps += [("advance", w) for w in range(state.W) if w not in idle] * 3
     return steps + [("seal",)] * is_done(state)
