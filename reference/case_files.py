@@ -5,6 +5,8 @@ byte each), four reads and four writes (2 each), four actions of 13 bytes:
 kind (1; 0 is nothing), r (2), s (2), c (8).
 """
 
+from functools import cache
+
 from packed import (KINDS, NOTHING, NUMBER_OF_KIND, Action, Transaction, kind_of, little, number,
                     operands)
 
@@ -63,6 +65,7 @@ def declaring(actions):
     return transaction(sorted(reads), sorted(writes), actions)
 
 
+@cache       # makers of random transactions ask for the same few sets again and again
 def possible_actions(reads, writes):
     """Every kind with every choice of r and s that these sets allow, c still 0."""
     records = sorted({*reads, *writes})
@@ -75,6 +78,7 @@ def possible_actions(reads, writes):
 
 # The two files --------------------------------------------------------------
 
+@cache       # a maker and the tests of its cases ask more than once
 def every_case(generators):
     """Every generator's cases in order; one that comes twice is kept once."""
     return list(dict.fromkeys(case for generator in generators for case in generator()))

@@ -345,7 +345,7 @@ def random_action(chance, possible, numbers):
 def random_transaction(chance, records, numbers):
     """A proper transaction on some of these records, with constants among these numbers."""
     def some_records():
-        return sorted(chance.sample(records, min(len(records), chance.choice((0, 1, 2, 3, 4, 4)))))
+        return tuple(sorted(chance.sample(records, min(len(records), chance.choice((0, 1, 2, 3, 4, 4))))))
 
     reads, writes = some_records(), some_records()
     possible = possible_actions(reads, writes)

@@ -11,7 +11,6 @@ files. At the end a table goes to stderr: how many cases end how.
 import random
 import sys
 from collections import Counter
-from functools import cache
 
 from case_files import LARGEST_NUMBER, every_case, transaction
 from cases_decide import EDGE_NUMBERS, SMALL_NUMBERS, add, copy, random_transaction, set_, take
@@ -259,7 +258,6 @@ GENERATORS = (
 )
 
 
-@cache
 def all_cases():
     return every_case(GENERATORS)
 

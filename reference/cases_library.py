@@ -9,7 +9,6 @@ form of the two files.
 
 import random
 import sys
-from functools import cache
 
 from case_files import LARGEST_NUMBER, every_case, write_files
 from cases_decide import EDGE_NUMBERS, SMALL_NUMBERS, random_transaction
@@ -140,7 +139,6 @@ GENERATORS = (
 )
 
 
-@cache
 def all_cases():
     return every_case(GENERATORS)
 

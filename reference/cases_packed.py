@@ -541,8 +541,8 @@ def random_proper(chance):
     """N and a proper meaning."""
     n = chance.choice((1, 2, 5, 10, 300, 1024))
     nearby = chance.sample(range(n), min(n, 5))
-    reads = sorted(chance.sample(nearby, chance.randint(0, min(n, 4))))
-    writes = sorted(chance.sample(nearby, chance.randint(0, min(n, 4))))
+    reads = tuple(sorted(chance.sample(nearby, chance.randint(0, min(n, 4)))))
+    writes = tuple(sorted(chance.sample(nearby, chance.randint(0, min(n, 4)))))
     possible = possible_actions(reads, writes)
     count = chance.randint(0, 4) if possible else 0
     return n, transaction(reads, writes, [random_action(chance, possible) for _ in range(count)])
