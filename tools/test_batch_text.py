@@ -45,8 +45,9 @@ def packed_from(text):
 class RoundTrip(unittest.TestCase):
     def both_ways(self, *files):
         text = shown(*files)
-        self.assertEqual(packed_from(text), files)
-        self.assertEqual(shown(*packed_from(text)), text)
+        packed = packed_from(text)
+        self.assertEqual(packed, files)
+        self.assertEqual(shown(*packed), text)
         return text
 
     def test_listing(self):
