@@ -1,10 +1,11 @@
 """Draws document 01's listing: python3 docs/draw_listing.py > docs/listing.svg
 
-What is drawn comes from a run of the reference over example/; only where it
-stands is decided here.
+What is drawn comes from a run of the reference over example/, or over a folder
+that is named; only where it stands is decided here.
 """
 
 import os
+import sys
 from html import escape
 
 from listing_facts import ROOT, facts
@@ -175,4 +176,4 @@ def drawing(batch):
 
 
 if __name__ == "__main__":
-    print(drawing(facts(os.path.join(ROOT, "example"))))
+    print(drawing(facts(sys.argv[1] if sys.argv[1:] else os.path.join(ROOT, "example"))))
