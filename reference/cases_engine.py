@@ -96,10 +96,10 @@ def makings_with_several_edges():
 
 
 def wrong_lengths(moment, table):
-    """Lengths of the table that are wrong at this moment, up to 1,025."""
+    """Lengths of the table that are wrong at this moment; of the version table the one that a case can have."""
     if table in ("newest", "records"):
         return sorted({0, moment.state.N - 1, moment.state.N + 1, 1025})
-    return (255, 257) if table == "versions" else (0, 255, 257)
+    return (70_000,) if table == "versions" else (0, 255, 257)
 
 
 def tables_of_wrong_length():
@@ -111,7 +111,7 @@ def tables_of_wrong_length():
     for moment in ADVANCES.values():
         for table in LENT["advance"]:
             length = len(getattr(moment.tables, table))
-            for wrong in (length - 1, length + 1):
+            for wrong in (70_000,) if table == "versions" else (length - 1, length + 1):
                 yield case(with_length(moment, table, wrong), "advance", 0)
 
 
@@ -591,7 +591,7 @@ OWN_FAULTS = [
     (7, edits((action_at(1), 6), (action_at(1) + 2, 3))),       # floor of record 3
     (8, edits((action_at(2) + 2, 3))),                          # set of record 3
 ]
-FAULT_1 = (1, on_moment(lambda moment: with_length(moment, "versions", 257)))
+FAULT_1 = (1, on_moment(lambda moment: with_length(moment, "versions", 70_000)))
 FAULT_14 = (14, on_moment(lambda moment: with_state(moment, W=9)))
 FAULT_2 = (2, on_moment(lambda moment: replace(moment, log=moment.log + b"\0")))
 UNPLANNED = (9, on_moment(lambda moment: with_placed(moment, 1, 1)))

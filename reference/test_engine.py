@@ -306,7 +306,8 @@ class Cases(unittest.TestCase):
 
     def test_lengths_of_tables(self):
         for each in self.cases:
-            self.assertIn(len(each.tables.versions), (255, 256, 257, 70_000))
+            lent = each.call not in ("make", "claim")
+            self.assertIn(len(each.tables.versions), (256, 70_000) if lent else (255, 256, 257, 70_000))
             self.assertIn(len(each.tables.results), (0, 255, 256, 257, 70_000))
             for table in (each.tables.newest, each.tables.records):
                 self.assertTrue(len(table) <= 1025 or len(table) == 70_000)

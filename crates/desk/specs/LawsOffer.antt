@@ -28,27 +28,6 @@ module _ (step : Step) (log : List ℕ) (s : Session) where
   unfolding offerOf
   offer-claim place claim = holds (isClaim step) _ _ claim ∙ fails (isPlace step) _ _ place
 
-  pub offer-advance : T (not (isPlace step)) → T (not (isClaim step)) → T (isAdvance step)
-      → afterAdvance (advanceFor (s .tally) (step .party) log (s .records) (s .newest) (s .versions) (s .results)) s
-      ≡ offerOf step log s
-  unfolding offerOf
-  offer-advance place claim advance =
-      holds (isAdvance step) _ _ advance ∙ (fails (isClaim step) _ _ claim ∙ fails (isPlace step) _ _ place)
-
-  pub offer-seal : T (not (isPlace step)) → T (not (isClaim step)) → T (not (isAdvance step)) → T (isSeal step)
-      → afterSeal (sealFor (s .tally) (s .records) (s .newest) (s .versions)) s ≡ offerOf step log s
-  unfolding offerOf
-  offer-seal place claim advance seal =
-      holds (isSeal step) _ _ seal
-      ∙ (fails (isAdvance step) _ _ advance ∙ (fails (isClaim step) _ _ claim ∙ fails (isPlace step) _ _ place))
-
-  pub offer-none : T (not (isPlace step)) → T (not (isClaim step)) → T (not (isAdvance step)) → T (not (isSeal step))
-      → afterNone s ≡ offerOf step log s
-  unfolding offerOf
-  offer-none place claim advance seal =
-      fails (isSeal step) _ _ seal
-      ∙ (fails (isAdvance step) _ _ advance ∙ (fails (isClaim step) _ _ claim ∙ fails (isPlace step) _ _ place))
-
   -- a step that is neither a place nor a claim
   abbrev pub laterOf : Session
   laterOf =

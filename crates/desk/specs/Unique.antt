@@ -7,13 +7,12 @@ use Rattle.terms.specs.Unique.{same}
 use Rattle.versions.specs.declared.Version.{Version}
 use Rattle.engine.specs.declared.State.{State}
 use Rattle.desk.specs.Counts.{begun}
-use Rattle.desk.specs.Offer.{Session, sessionOf, offerOf, runOf}
+use Rattle.desk.specs.Offer.{Session, sessionOf, runOf}
 use Rattle.desk.specs.Lines.{lineOf}
 use Rattle.desk.specs.declared.Line.{Line}
-use Rattle.desk.specs.declared.Step.{Step}
 use Rattle.desk.specs.declared.Tally.{Tally}
 
--- what the contracts of `offer` and `offer_all` say: result and tables at exit are the parts of a session
+-- what the contract of `offer_all` says: result and tables at exit are the parts of a session
 abbrev pub SessionMet : Session → Tally → List ℕ → List ℕ → List Version → List ℕ → Type 0
 SessionMet s r records newest versions results =
     (r ≡ s .tally)
@@ -38,19 +37,6 @@ met-unique s a b a-records b-records a-newest b-newest a-versions b-versions a-r
     ),
   ),
 )
-
-pub offer-unique : (step : Step) (log : List ℕ) (tally : Tally) (records newest : List ℕ) (versions : List Version)
-    (results : List ℕ) (a b : Tally) (a-records b-records a-newest b-newest : List ℕ)
-    (a-versions b-versions : List Version) (a-results b-results : List ℕ)
-    → SessionMet (offerOf step log (sessionOf tally records newest versions results)) a a-records a-newest a-versions
-    a-results
-    → SessionMet (offerOf step log (sessionOf tally records newest versions results)) b b-records b-newest b-versions
-    b-results
-    → (a ≡ b)
-    × ((a-records ≡ b-records)
-    × ((a-newest ≡ b-newest) × ((a-versions ≡ b-versions) × (a-results ≡ b-results))))
-offer-unique step log tally records newest versions results =
-    met-unique (offerOf step log (sessionOf tally records newest versions results))
 
 pub offer-all-unique : (piece : List ℕ) (bytes : ℕ) (log : List ℕ) (tally : Tally) (records newest : List ℕ)
     (versions : List Version) (results : List ℕ) (a b : Tally) (a-records b-records a-newest b-newest : List ℕ)

@@ -109,12 +109,6 @@ pub(crate) fn refused_at_once(sheet: Sheet) -> Sheet
     }
 }
 
-pub(crate) fn numbers_in(sheet: Sheet) -> Numbers
-    ensures { λ r. ⌜ r ≡ sheet .numbers ⌝ }
-{
-    sheet.numbers
-}
-
 pub(crate) fn offer_place(
     sheet: Sheet,
     party: usize,
@@ -132,8 +126,7 @@ pub(crate) fn offer_place(
         × (now (versions .exit) ≡ placeOf (joined (sheet .numbers) (now (rows .entry)) (now (crew .entry))) party
         (now (log .entry)) (now (newest .entry)) (now (versions .entry)) .plans .versions)) ⌝ }
 {
-    let numbers = numbers_in(sheet);
-    let step = lent::place(rows, crew, numbers, party, log, newest, versions);
+    let step = lent::place(rows, crew, sheet.numbers, party, log, newest, versions);
     counted(sheet, step)
 }
 
@@ -152,8 +145,7 @@ pub(crate) fn offer_claim(
         × (now (crew .exit) ≡ claimOf (joined (sheet .numbers) (now (rows .entry)) (now (crew .entry))) party number
         .state .crew)) ⌝ }
 {
-    let numbers = numbers_in(sheet);
-    let answer = lent::claim(rows, crew, numbers, party, number);
+    let answer = lent::claim(rows, crew, sheet.numbers, party, number);
     answered(sheet, answer)
 }
 
@@ -185,11 +177,10 @@ pub(crate) fn offer_advance(
         (now (log .entry)) (now (records .entry)) (now (newest .entry)) (now (versions .entry))
         (now (results .entry)) .results)))) ⌝ }
 {
-    let numbers = numbers_in(sheet);
     let answer = lent::advance(
         rows,
         crew,
-        numbers,
+        sheet.numbers,
         party,
         log,
         records,
@@ -219,8 +210,7 @@ pub(crate) fn offer_seal(
         × (now (versions .exit) ≡ sealOf (joined (sheet .numbers) (now (rows .entry)) (now (crew .entry)))
         (now (records .entry)) (now (newest .entry)) (now (versions .entry)) .versions))) ⌝ }
 {
-    let numbers = numbers_in(sheet);
-    let step = lent::seal(rows, crew, numbers, records, newest, versions);
+    let step = lent::seal(rows, crew, sheet.numbers, records, newest, versions);
     counted_seal(sheet, step)
 }
 

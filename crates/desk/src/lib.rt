@@ -10,7 +10,6 @@ mod writing;
 
 pub use counts::begin;
 use engine::State;
-pub use offering::offer;
 pub use offering::offer_all;
 pub use output::counts_of;
 pub use output::make_for;

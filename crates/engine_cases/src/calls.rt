@@ -71,18 +71,10 @@ fn with(
     records: &mut [u64],
     results: &mut [u64],
 ) {
-    if asked.length == 255 {
-        tables::one_short(state, asked, log, newest, entries, records, results);
+    if asked.length == 256 {
+        tables::exact(state, asked, log, newest, entries, records, results);
     } else {
-        if asked.length == 256 {
-            tables::exact(state, asked, log, newest, entries, records, results);
-        } else {
-            if asked.length == 257 {
-                tables::one_long(state, asked, log, newest, entries, records, results);
-            } else {
-                tables::long(state, asked, log, newest, entries, records, results);
-            }
-        }
+        tables::long(state, asked, log, newest, entries, records, results);
     }
 }
 

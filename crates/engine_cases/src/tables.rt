@@ -143,31 +143,7 @@ pub(crate) fn run(
 }
 
 // The table is a local array, whose length stands in the code: a function for each length that the cases have. This one
-// is one entry too short.
-pub(crate) fn one_short(
-    state: State,
-    asked: Asked,
-    log: &[u8],
-    newest: &mut [u16],
-    entries: &[u64],
-    records: &mut [u64],
-    results: &mut [u64],
-) {
-    let version = empty();
-    let mut versions = [version; 255];
-    run(
-        state,
-        asked,
-        log,
-        newest,
-        entries,
-        &mut versions,
-        records,
-        results,
-    );
-}
-
-// The right length.
+// is the right length.
 pub(crate) fn exact(
     state: State,
     asked: Asked,
@@ -179,30 +155,6 @@ pub(crate) fn exact(
 ) {
     let version = empty();
     let mut versions = [version; 256];
-    run(
-        state,
-        asked,
-        log,
-        newest,
-        entries,
-        &mut versions,
-        records,
-        results,
-    );
-}
-
-// One entry too long.
-pub(crate) fn one_long(
-    state: State,
-    asked: Asked,
-    log: &[u8],
-    newest: &mut [u16],
-    entries: &[u64],
-    records: &mut [u64],
-    results: &mut [u64],
-) {
-    let version = empty();
-    let mut versions = [version; 257];
     run(
         state,
         asked,

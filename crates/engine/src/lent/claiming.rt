@@ -85,36 +85,6 @@ pub(crate) fn consider_claim(
     }
 }
 
-pub(crate) fn answer_in(plan: Claiming) -> Answer
-    ensures { λ r. ⌜ r ≡ plan .answer ⌝ }
-{
-    plan.answer
-}
-
-pub(crate) fn transaction_in(plan: Claiming) -> usize
-    ensures { λ r. ⌜ r ≡ plan .transaction ⌝ }
-{
-    plan.transaction
-}
-
-pub(crate) fn executing_in(plan: Claiming) -> Row
-    ensures { λ r. ⌜ r ≡ plan .executing ⌝ }
-{
-    plan.executing
-}
-
-pub(crate) fn worker_in(plan: Claiming) -> usize
-    ensures { λ r. ⌜ r ≡ plan .worker ⌝ }
-{
-    plan.worker
-}
-
-pub(crate) fn starting_in(plan: Claiming) -> Worker
-    ensures { λ r. ⌜ r ≡ plan .starting ⌝ }
-{
-    plan.starting
-}
-
 pub fn claim(
     rows: &mut [Row],
     crew: &mut [Worker],
@@ -142,11 +112,7 @@ pub fn claim(
         rows.len(),
         crew.len(),
     );
-    let transaction = transaction_in(plan);
-    let executing = executing_in(plan);
-    put_row(rows, transaction, executing);
-    let worker = worker_in(plan);
-    let starting = starting_in(plan);
-    put_worker(crew, worker, starting);
-    answer_in(plan)
+    put_row(rows, plan.transaction, plan.executing);
+    put_worker(crew, plan.worker, plan.starting);
+    plan.answer
 }

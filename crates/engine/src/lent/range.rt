@@ -28,13 +28,6 @@ pub(crate) fn has_wrong_numbers(numbers: Numbers) -> bool
     state.has_wrong_number() | state.has_wrong_placed()
 }
 
-// The workers that there are.
-pub(crate) fn all_workers() -> usize
-    ensures { λ r. ⌜ r ≡ 8 ⌝ }
-{
-    8
-}
-
 // The transaction that a worker holds, as an index.
 pub(crate) fn held_index(worker: Worker) -> usize
     ensures { λ r. ⌜ r ≡ worker .transaction ⌝ }
@@ -83,10 +76,9 @@ pub(crate) fn has_wrong_worker(rows: &[Row], crew: &[Worker], numbers: Numbers) 
     ensures { λ r.
         ⌜ r ≡ someBelow 8 (workerWrong (joined numbers (now (rows .entry)) (now (crew .entry)))) ⌝ }
 {
-    let stop = all_workers();
     let mut wrong = false;
     let mut w: usize = 0;
-    while w < stop {
+    while w < 8 {
         let worker = worker_at(crew, w);
         wrong = worker_wrong(rows, wrong, numbers, w, worker);
         w = w + 1;
@@ -172,12 +164,6 @@ pub(crate) fn has_wrong_row(rows: &[Row], crew: &[Worker], numbers: Numbers) -> 
     wrong
 }
 
-pub(crate) fn either(first: bool, second: bool) -> bool
-    ensures { λ r. ⌜ r ≡ (first || second) ⌝ }
-{
-    first | second
-}
-
 // What 14 says of the transactions and the workers.
 pub(crate) fn are_wrong(rows: &[Row], crew: &[Worker], numbers: Numbers) -> bool
     ensures { λ r.
@@ -185,9 +171,7 @@ pub(crate) fn are_wrong(rows: &[Row], crew: &[Worker], numbers: Numbers) -> bool
         ≡ (someBelow 8 (workerWrong (joined numbers (now (rows .entry)) (now (crew .entry))))
         || someBelow 64 (rowWrong (joined numbers (now (rows .entry)) (now (crew .entry))))) ⌝ }
 {
-    let first = has_wrong_worker(rows, crew, numbers);
-    let second = has_wrong_row(rows, crew, numbers);
-    either(first, second)
+    has_wrong_worker(rows, crew, numbers) | has_wrong_row(rows, crew, numbers)
 }
 
 // 14, with what it says of the transactions and the workers.

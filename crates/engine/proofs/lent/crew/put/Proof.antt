@@ -1,3 +1,4 @@
+-- Made by tools/regenerate from tools/walks/entries.py: change that and run it again, never this file.
 -- `engine::lent::crew::put` meets its contract: a walk of its code, by hand. The place of an element is slot times
 -- 40 past the slice's pointer; the borrow is opened, the entry is taken out of the row, the new one is stored there
 -- whole, and the borrow is closed at the list with it in. Assumes nothing.

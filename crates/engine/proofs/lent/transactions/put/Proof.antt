@@ -1,4 +1,6 @@
--- `engine::lent::transactions::put` meets its contract: a walk of its code, by hand. The place of an element is slot times
+-- Made by tools/regenerate from tools/walks/entries.py: change that and run it again, never this file.
+-- `engine::lent::transactions::put` meets its contract: a walk of its code, by hand. The place of an element is slot
+-- times
 -- 40 past the slice's pointer; the borrow is opened, the entry is taken out of the row, the new one is stored there
 -- whole, and the borrow is closed at the list with it in. Assumes nothing.
 use mathlib.Core.Path.{_≡_, refl, sym, ap, subst}
