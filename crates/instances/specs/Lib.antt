@@ -7,4 +7,3 @@ pub mod Impostors
 pub mod Pretenders
 pub mod Designs
 pub mod Instances
-pub mod Tables
