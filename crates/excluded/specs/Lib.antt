@@ -4,3 +4,12 @@ pub mod Little
 pub mod Packed
 pub mod Counters
 pub mod Versions
+pub mod Parts
+pub mod Engine
+pub mod Lengths
+pub mod Lent
+pub mod Desk
+pub mod Program
+pub mod Capi
+pub mod Promised
+pub mod Listing
