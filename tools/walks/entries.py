@@ -40,11 +40,12 @@ def written(text, run):
         ('versions::table::entry_at', 'engine::lent::%s::%s' % (module, read)),
         ('versions::table::put_at', 'engine::lent::%s::%s' % (module, store)),
         ('versions::table::', 'engine::lent::%s::' % module),
-        ('(`entry_at`, `put_at`, `follow`)', '(`%s`, `%s`)' % (read, store)),
+        ('the walks written by hand (`entry_at`, `put_at`) show', 'the walks of `%s` and `%s` show' % (read, store)),
         ('`versions[slot]`', 'an element'), ('* 40', '* %d' % size), ('place-is 40', 'place-is %d' % size),
     ]:
         text = text.replace(a, b)
-    return re.sub(r'\bVersion\b', struct, text)
+    text = re.sub(r'(slot times\s+(?:-- )?)40 ', r'\g<1>%d ' % size, text)
+    return re.sub(r'\bVersion\b', struct, text).replace('its code, by hand', "its code, as the version table's")
 
 
 def files(root):

@@ -2,6 +2,8 @@
 import re
 
 USE = re.compile(r'^use (\S+?)(?:\.\{(.*)\}| as (\S+))$')
+# a `use` that the layout has spread over lines, a name in each
+SPREAD = re.compile(r'^use (\S+)\.\{\n(.*?)\n\}$', re.M | re.S)
 WIDTH = 116
 
 
@@ -38,6 +40,7 @@ def packed(module, names):
 
 def pruned(text):
     """the text with its `use` lines put together and those left out that name nothing used in it"""
+    text = SPREAD.sub(lambda m: 'use %s.{%s}' % (m.group(1), ' '.join(m.group(2).split()).rstrip(',')), text)
     comments, uses, rest = [], [], []
     for line in text.split('\n'):
         if line.startswith('use '):

@@ -85,6 +85,7 @@ use denote.Triple.Table.{entered, cited}
 use denote.Triple.Walked.{says, Stays, stay-slice, stay-none-slice, stay-none, walkOf, goes-slice}
 use denote.Triple.Walked.{goes-none-slice, goes-none, Walks, ends-at, walked, walk-meets}
 use denote.Exit.{yes}
+use Rattle.walks.proofs.Leaving.{full, room, leaves}
 use Rattle.walks.proofs.Locals.{tyAt, envOf, after}
 use Rattle.walks.proofs.Plain.{look-at, silent, big-lit}
 use Rattle.walks.proofs.Typed.{num-typed, bool-typed, unit-typed, wider-w8, wider-w16, wider-w32}

@@ -245,20 +245,17 @@ class Walk(Arrays):
         x = self.context
         self.step('%s (look ! %d refl)' % (
             'returns-within ! Post refl' if self.within else 'returns !', self.position(0)))
-        for local in sorted(self.full):
-            self.step('forget ! %d refl' % self.position(local))
         for local, name in self.arrays.items():
             run = self.runs[name]
             x.bring('S-' + name)
             self.step('use1 W (‵ (froom (τ %d) l-%d 0)) (array-out 𝓤 H A W %s %s l-%d 0 %s (%s))' % (
                 local, local, run.type.row, run.size, local, atom(self.now[name]), self.length[name]))
             x.entries[0] = 'L%d' % local
-        for local in range(self.code.count):
-            x.bring('L%d' % local, 'L%dd' % local)
-            self.step('free1 !')
-            x.entries[:2] = []
-        self.step('free0 !')
-        x.bring(*self.heads())
+        locals_ = range(self.code.count)
+        x.bring(*['L%d%s' % (local, d) for local in locals_ for d in ('', 'd')] + self.heads())
+        self.step('leaves ! (%s ∷ [])' % ' ∷ '.join(
+            ('full (τ %d) l-%d _' if local in self.full else 'room (τ %d) l-%d') % (local, local) for local in locals_))
+        x.entries = self.heads()
         changed = [p.name for p in self.function.slices if p.lent == 'mut']
         lists = [atom(self.now[name]) for name in changed]
         lengths = ['(%s)' % self.length[name] for name in changed]

@@ -7,3 +7,4 @@ pub mod Choice
 pub mod Locals
 pub mod Typed
 pub mod Plain
+pub mod Leaving

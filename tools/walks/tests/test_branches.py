@@ -87,10 +87,10 @@ class Forgotten(unittest.TestCase):
         land = found.index("land ! (from ! (stop !)) (init ! 2 refl (bool-typed u2 is-wrong-2 (s2)))")
         self.assertEqual(found[land - 2:land], ["drop !", "forget ! 4 refl"])
 
-    def test_each_local_is_forgotten_once(self):
-        for more in ({}, {"forget": {2: [3]}}):
-            forgotten = [step for step in self.walk(**more) if step.startswith("forget")]
-            self.assertEqual((len(forgotten), len(set(forgotten))), (5, 5))
+    def test_it_is_only_room_at_the_return(self):
+        left = "leaves ! (full (τ 0) l-0 _ ∷ full (τ 1) l-1 _ ∷ full (τ 2) l-2 _ ∷ %s ∷ full (τ 4) l-4 _ ∷ [])"
+        self.assertIn(left % "full (τ 3) l-3 _", self.walk())
+        self.assertIn(left % "room (τ 3) l-3", self.walk(forget={2: [3]}))
 
 
 class Unknown(unittest.TestCase):

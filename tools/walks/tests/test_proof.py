@@ -98,7 +98,9 @@ class Around(unittest.TestCase):
             "drop !", "move ! (10 ∷ [])", "split !", "move ! (1 ∷ [])", "split !", "move ! (1 ∷ [])", "drop !"])
 
     def test_it_is_left_with_the_slices_in_order(self):
-        self.assertEqual(steps(self.text)[-2], "move ! (3 ∷ 1 ∷ 2 ∷ 0 ∷ [])")
+        self.assertEqual(steps(self.text)[-3],
+                         "move ! (10 ∷ 11 ∷ 8 ∷ 9 ∷ 6 ∷ 7 ∷ 4 ∷ 5 ∷ 3 ∷ 1 ∷ 2 ∷ 0 ∷ [])")
+        self.assertTrue(steps(self.text)[-2].startswith("leaves ! (full (τ 0) l-0 _ ∷ "))
         self.assertTrue(steps(self.text)[-1].startswith("by ! (exits is-wrong-1 rows (by-law count) refl (refl) )"))
 
     def test_own_walks(self):

@@ -90,7 +90,8 @@ class TwoCalls(Walked):
             "(from ! (stop !)) (init ! 4 refl (tt, (tt, (record { fits = room-rows .0 }, tt))))" % length])
 
     def test_every_local_is_freed(self):
-        self.assertEqual(self.steps.count("free1 !"), 7)
+        self.assertEqual(self.only(self.steps, "leaves ! ("), "leaves ! (%s ∷ [])" % " ∷ ".join(
+            "full (τ %d) l-%d _" % (k, k) for k in range(7)))
         self.closed(self.text)
 
 

@@ -21,6 +21,9 @@ class Imports(unittest.TestCase):
     def test_a_line_of_which_nothing_is_used_is_left_out(self):
         self.assertEqual(kept(["use a.B.{one}", "use a.C.{two}"], "x = two"), ["use a.C.{two}"])
 
+    def test_a_line_that_is_spread_over_lines(self):
+        self.assertEqual(kept(["use a.B.{", "  one,", "  two,", "}", "use a.C as D"], "x = two"), ["use a.B.{two}"])
+
     def test_a_part_of_a_word_is_not_the_word(self):
         self.assertEqual(kept(["use a.B.{row, put}"], "x = rows put-row out·put"), [])
 

@@ -20,8 +20,8 @@ use contract.Running.{givenOf, tables, tablesOf}
 use types.Kit.{nth, Given, Item, ‵, raw, given, some, later, _⊛_, ⋆, _$_, _∵_, !, qed, by, move, drop, use0, use1}
 use types.Kit.{use2, split, join, pick, learn, rewrite, fsplit, fjoin, suffices, frame, await, done}
 use types.Part.{whole, sub}
-use types.Run.{Opd, look, init, forget, stop, fld, from, load, and-then, no-more, land, returns, enter, alloc1}
-use types.Run.{alloc0, params1, pass1, pass0, free1, free0}
+use types.Run.{Opd, look, init, stop, fld, from, load, and-then, no-more, land, returns, enter, alloc1, alloc0}
+use types.Run.{params1, pass1, pass0}
 use sound.WpLaws.{FmC, fmOf, WpFn-mono}
 use denote.RattleType.{owns}
 use denote.Laws.{Is}
@@ -40,6 +40,7 @@ use denote.Triple.Table.{entered, cited}
 use denote.Triple.Walked.{says, Stays, stay-none-slice, stay-none, walkOf, goes-none-slice, goes-none, Walks}
 use denote.Triple.Walked.{ends-at, walked, walk-meets}
 use denote.Exit.{yes}
+use Rattle.walks.proofs.Leaving.{full, leaves}
 use Rattle.walks.proofs.Locals.{tyAt, envOf}
 use Rattle.walks.proofs.Plain.{look-at}
 use Rattle.walks.proofs.Typed.{num-typed}
@@ -308,26 +309,9 @@ module _ {M : Type 1} (𝓤 : URA M) (H : Heap 𝓤) (A : Atoms 𝓤) (W : Given
         land ! (from ! (stop !)) (init ! 14 refl (Choice.typed N.the-type N′.the-laws tt 𝓤 H A W seen-by-3 u3 (s3))) $
         rewrite ! 14 (λ (z : Val). ‵ (fat fullShare (τ 0) l-0 0 z)) (s3 .0) refl $
         returns ! (look ! 14 refl) $
-        forget ! 14 refl $
-        forget ! 12 refl $
-        forget ! 10 refl $
-        forget ! 8 refl $
-        forget ! 6 refl $
-        forget ! 4 refl $
-        move ! (14 ∷ 15 ∷ []) $
-        free1 ! $
-        move ! (12 ∷ 13 ∷ []) $
-        free1 ! $
-        move ! (10 ∷ 11 ∷ []) $
-        free1 ! $
-        move ! (8 ∷ 9 ∷ []) $
-        free1 ! $
-        move ! (6 ∷ 7 ∷ []) $
-        free1 ! $
-        move ! (4 ∷ 5 ∷ []) $
-        free1 ! $
-        free0 ! $
-        move ! (3 ∷ 2 ∷ 1 ∷ 0 ∷ []) $
+        move ! (14 ∷ 15 ∷ 12 ∷ 13 ∷ 10 ∷ 11 ∷ 8 ∷ 9 ∷ 6 ∷ 7 ∷ 4 ∷ 5 ∷ 3 ∷ 2 ∷ 1 ∷ 0 ∷ []) $
+        leaves ! (full (τ 0) l-0 _ ∷ full (τ 1) l-1 _ ∷ full (τ 2) l-2 _ ∷ full (τ 3) l-3 _ ∷ full (τ 4) l-4 _ ∷ full
+        (τ 5) l-5 _ ∷ []) $
         by ! (exits seen-by-3 (looked-is versions records sight) (s3 .1)))))))))))))))))
 
 module _ {M : Type 1} (𝓤 : URA M) (H : Heap 𝓤) (A : Atoms 𝓤) (W : Given 𝓤 H A) (mem : Memory

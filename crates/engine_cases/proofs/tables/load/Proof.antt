@@ -22,8 +22,8 @@ use types.Kit.{Given, Item, ‵, raw, given, some, later, _⊛_, ⋆, _$_, _∵_
 use types.Kit.{join, pick, learn, rewrite, fsplit, fjoin, feqI, suffices, frame, await, done, Sq, runs, anyQ, atRet}
 use types.Part.{agg, whole, sub, look-in}
 use types.Run.{look, init, store, forget, stop, hop, fld, from, load, addr, lit, unit-lit, of-opd, and-then}
-use types.Run.{no-more, assigns, land, returns, enter, alloc1, alloc0, params1, pass1, pass0, free1, free0, bin}
-use types.Run.{assigns-last, first, blocks, branches, skips, jumps, exec, Below, again, loops}
+use types.Run.{no-more, assigns, land, returns, enter, alloc1, alloc0, params1, pass1, pass0, bin, assigns-last}
+use types.Run.{first, blocks, branches, skips, jumps, exec, Below, again, loops}
 use sound.WpLaws.{FmC, fmOf, WpFn-mono}
 use denote.RattleType.{owns}
 use denote.Laws.{Is}
@@ -42,6 +42,7 @@ use denote.Triple.Table.{entered, cited}
 use denote.Triple.Walked.{Stays, stay-slice, stay-none-slice, stay-none, walkOf, goes-slice, goes-none-slice}
 use denote.Triple.Walked.{goes-none, Walks, ends-at, walked, walk-meets}
 use denote.Exit.{yes}
+use Rattle.walks.proofs.Leaving.{full, room, leaves}
 use Rattle.walks.proofs.Locals.{tyAt, envOf, after}
 use Rattle.walks.proofs.Plain.{silent}
 use Rattle.walks.proofs.Typed.{num-typed, unit-typed}
@@ -303,35 +304,10 @@ module _ {M : Type 1} (𝓤 : URA M) (H : Heap 𝓤) (A : Atoms 𝓤) (W : Given
           jumps ! $ exec ! C Λ En mir′.t-3 (atRet En Post) $
           assigns ! (of-opd ! (unit-lit !)) (from ! (stop !)) (init ! 24 refl (tt, tt)) $
           returns ! (look ! 24 refl) $
-          forget ! 24 refl $
-          forget ! 22 refl $
-          forget ! 20 refl $
-          forget ! 18 refl $
-          forget ! 16 refl $
-          forget ! 10 refl $
-          move ! (24 ∷ 25 ∷ []) $
-          free1 ! $
-          move ! (22 ∷ 23 ∷ []) $
-          free1 ! $
-          move ! (20 ∷ 21 ∷ []) $
-          free1 ! $
-          move ! (18 ∷ 19 ∷ []) $
-          free1 ! $
-          move ! (16 ∷ 17 ∷ []) $
-          free1 ! $
-          move ! (14 ∷ 15 ∷ []) $
-          free1 ! $
-          move ! (12 ∷ 13 ∷ []) $
-          free1 ! $
-          move ! (10 ∷ 11 ∷ []) $
-          free1 ! $
-          move ! (8 ∷ 9 ∷ []) $
-          free1 ! $
-          move ! (6 ∷ 7 ∷ []) $
-          free1 ! $
-          move ! (4 ∷ 5 ∷ []) $
-          free1 ! $
-          free0 ! $
+          move ! (24 ∷ 25 ∷ 22 ∷ 23 ∷ 20 ∷ 21 ∷ 18 ∷ 19 ∷ 16 ∷ 17 ∷ 14 ∷ 15 ∷ 12 ∷ 13 ∷ 10 ∷ 11 ∷ 8 ∷ 9 ∷ 6 ∷ 7 ∷ 4 ∷ 5
+          ∷ 0 ∷ 1 ∷ 2 ∷ 3 ∷ []) $
+          leaves ! (full (τ 0) l-0 _ ∷ full (τ 1) l-1 _ ∷ full (τ 2) l-2 _ ∷ full (τ 3) l-3 _ ∷ full (τ 4) l-4 _ ∷ room
+          (τ 5) l-5 ∷ room (τ 6) l-6 ∷ full (τ 7) l-7 _ ∷ room (τ 8) l-8 ∷ room (τ 9) l-9 ∷ room (τ 10) l-10 ∷ []) $
           by ! (exits (i .1 .1 .0) (i .1 .1 .1)))
         where
           fits : (j : Upto) → j .0 < 2 ^ 64

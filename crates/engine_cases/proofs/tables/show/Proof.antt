@@ -23,8 +23,8 @@ use types.Kit.{split, join, pick, learn, rewrite, fsplit, fjoin, feqI, suffices,
 use types.Kit.{atRet}
 use types.Part.{whole, sub, look-in}
 use types.Run.{look, init, store, forget, stop, fld, from, load, lit, unit-lit, of-opd, and-then, no-more, assigns}
-use types.Run.{land, returns, enter, alloc1, alloc0, params1, pass1, pass0, free1, free0, bin, assigns-last, first}
-use types.Run.{blocks, branches, skips, jumps, exec, Below, again, loops}
+use types.Run.{land, returns, enter, alloc1, alloc0, params1, pass1, pass0, bin, assigns-last, first, blocks}
+use types.Run.{branches, skips, jumps, exec, Below, again, loops}
 use sound.WpLaws.{FmC, fmOf, WpFn-mono}
 use denote.RattleType.{owns}
 use denote.Ref.{RefT}
@@ -38,6 +38,7 @@ use denote.Triple.Spec.{Meets, tripleOf}
 use denote.Triple.Table.{entered, cited}
 use denote.Triple.Walked.{Stays, stay-none-slice, walkOf, goes-none-slice, Walks, ends-at, walked, walk-meets}
 use denote.Exit.{yes}
+use Rattle.walks.proofs.Leaving.{full, room, leaves}
 use Rattle.walks.proofs.Locals.{tyAt, envOf, after}
 use Rattle.walks.proofs.Plain.{silent}
 use Rattle.walks.proofs.Typed.{unit-typed}
@@ -225,31 +226,9 @@ module _ {M : Type 1} (𝓤 : URA M) (H : Heap 𝓤) (A : Atoms 𝓤) (W : Given
           jumps ! $ exec ! C Λ En mir′.t-5 (atRet En Post) $
           assigns ! (of-opd ! (unit-lit !)) (from ! (stop !)) (init ! 18 refl (tt, tt)) $
           returns ! (look ! 18 refl) $
-          forget ! 18 refl $
-          forget ! 16 refl $
-          forget ! 14 refl $
-          forget ! 8 refl $
-          forget ! 6 refl $
-          forget ! 4 refl $
-          move ! (18 ∷ 19 ∷ []) $
-          free1 ! $
-          move ! (16 ∷ 17 ∷ []) $
-          free1 ! $
-          move ! (14 ∷ 15 ∷ []) $
-          free1 ! $
-          move ! (12 ∷ 13 ∷ []) $
-          free1 ! $
-          move ! (10 ∷ 11 ∷ []) $
-          free1 ! $
-          move ! (8 ∷ 9 ∷ []) $
-          free1 ! $
-          move ! (6 ∷ 7 ∷ []) $
-          free1 ! $
-          move ! (4 ∷ 5 ∷ []) $
-          free1 ! $
-          move ! (2 ∷ 3 ∷ []) $
-          free1 ! $
-          free0 ! $
+          move ! (18 ∷ 19 ∷ 16 ∷ 17 ∷ 14 ∷ 15 ∷ 12 ∷ 13 ∷ 10 ∷ 11 ∷ 8 ∷ 9 ∷ 6 ∷ 7 ∷ 4 ∷ 5 ∷ 2 ∷ 3 ∷ 0 ∷ 1 ∷ []) $
+          leaves ! (full (τ 0) l-0 _ ∷ full (τ 1) l-1 _ ∷ full (τ 2) l-2 _ ∷ room (τ 3) l-3 ∷ room (τ 4) l-4 ∷ full
+          (τ 5) l-5 _ ∷ full (τ 6) l-6 _ ∷ full (τ 7) l-7 _ ∷ room (τ 8) l-8 ∷ []) $
           by ! (exits))
         where
           fits : (j : Upto) → j .0 < 2 ^ 64

@@ -22,7 +22,7 @@ use types.Kit.{Given, ‵, raw, given, some, later, _⊛_, ⋆, _$_, _∵_, !, q
 use types.Kit.{pick, learn, rewrite, fsplit, fjoin, feqI, suffices, frame, await, done}
 use types.Part.{agg, whole, sub, look-in}
 use types.Run.{look, init, forget, stop, hop, fld, from, load, addr, unit-lit, of-opd, and-then, no-more, assigns}
-use types.Run.{land, returns, enter, alloc1, alloc0, params1, pass1, pass0, free1, free0}
+use types.Run.{land, returns, enter, alloc1, alloc0, params1, pass1, pass0}
 use sound.WpLaws.{FmC, fmOf, WpFn-mono}
 use denote.RattleType.{owns}
 use denote.Laws.{Is}
@@ -42,6 +42,7 @@ use denote.Triple.Table.{entered, cited}
 use denote.Triple.Walked.{Stays, stay-slice, stay-none-slice, stay-none, walkOf, goes-slice, goes-none-slice}
 use denote.Triple.Walked.{goes-none, Walks, ends-at, walked, walk-meets}
 use denote.Exit.{yes}
+use Rattle.walks.proofs.Leaving.{full, room, leaves}
 use Rattle.walks.proofs.Locals.{tyAt}
 use Rattle.walks.proofs.Plain.{silent}
 use Rattle.walks.proofs.Typed.{num-typed, unit-typed}
@@ -684,91 +685,16 @@ module _ {M : Type 1} (𝓤 : URA M) (H : Heap 𝓤) (A : Atoms 𝓤) (W : Given
         land ! (from ! (stop !)) (init ! 20 refl (unit-typed u3 (s3))) $
         assigns ! (of-opd ! (unit-lit !)) (from ! (stop !)) (init ! 66 refl (tt, tt)) $
         returns ! (look ! 66 refl) $
-        forget ! 66 refl $
-        forget ! 62 refl $
-        forget ! 60 refl $
-        forget ! 58 refl $
-        forget ! 56 refl $
-        forget ! 54 refl $
-        forget ! 52 refl $
-        forget ! 50 refl $
-        forget ! 48 refl $
-        forget ! 46 refl $
-        forget ! 44 refl $
-        forget ! 42 refl $
-        forget ! 40 refl $
-        forget ! 38 refl $
-        forget ! 36 refl $
-        forget ! 34 refl $
-        forget ! 32 refl $
-        forget ! 30 refl $
-        forget ! 28 refl $
-        forget ! 26 refl $
-        forget ! 24 refl $
-        forget ! 22 refl $
-        forget ! 20 refl $
-        forget ! 18 refl $
-        forget ! 16 refl $
-        forget ! 14 refl $
-        forget ! 12 refl $
-        move ! (66 ∷ 67 ∷ []) $
-        free1 ! $
-        move ! (64 ∷ 65 ∷ []) $
-        free1 ! $
-        move ! (62 ∷ 63 ∷ []) $
-        free1 ! $
-        move ! (60 ∷ 61 ∷ []) $
-        free1 ! $
-        move ! (58 ∷ 59 ∷ []) $
-        free1 ! $
-        move ! (56 ∷ 57 ∷ []) $
-        free1 ! $
-        move ! (54 ∷ 55 ∷ []) $
-        free1 ! $
-        move ! (52 ∷ 53 ∷ []) $
-        free1 ! $
-        move ! (50 ∷ 51 ∷ []) $
-        free1 ! $
-        move ! (48 ∷ 49 ∷ []) $
-        free1 ! $
-        move ! (46 ∷ 47 ∷ []) $
-        free1 ! $
-        move ! (44 ∷ 45 ∷ []) $
-        free1 ! $
-        move ! (42 ∷ 43 ∷ []) $
-        free1 ! $
-        move ! (40 ∷ 41 ∷ []) $
-        free1 ! $
-        move ! (38 ∷ 39 ∷ []) $
-        free1 ! $
-        move ! (36 ∷ 37 ∷ []) $
-        free1 ! $
-        move ! (34 ∷ 35 ∷ []) $
-        free1 ! $
-        move ! (32 ∷ 33 ∷ []) $
-        free1 ! $
-        move ! (30 ∷ 31 ∷ []) $
-        free1 ! $
-        move ! (28 ∷ 29 ∷ []) $
-        free1 ! $
-        move ! (26 ∷ 27 ∷ []) $
-        free1 ! $
-        move ! (24 ∷ 25 ∷ []) $
-        free1 ! $
-        move ! (22 ∷ 23 ∷ []) $
-        free1 ! $
-        move ! (20 ∷ 21 ∷ []) $
-        free1 ! $
-        move ! (18 ∷ 19 ∷ []) $
-        free1 ! $
-        move ! (16 ∷ 17 ∷ []) $
-        free1 ! $
-        move ! (14 ∷ 15 ∷ []) $
-        free1 ! $
-        move ! (12 ∷ 13 ∷ []) $
-        free1 ! $
-        free0 ! $
-        move ! (10 ∷ 11 ∷ 5 ∷ 4 ∷ 2 ∷ 3 ∷ 8 ∷ 9 ∷ 6 ∷ 7 ∷ 0 ∷ 1 ∷ []) $
+        move ! (66 ∷ 67 ∷ 64 ∷ 65 ∷ 62 ∷ 63 ∷ 60 ∷ 61 ∷ 58 ∷ 59 ∷ 56 ∷ 57 ∷ 54 ∷ 55 ∷ 52 ∷ 53 ∷ 50 ∷ 51 ∷ 48 ∷ 49
+        ∷ 46 ∷ 47 ∷ 44 ∷ 45 ∷ 42 ∷ 43 ∷ 40 ∷ 41 ∷ 38 ∷ 39 ∷ 36 ∷ 37 ∷ 34 ∷ 35 ∷ 32 ∷ 33 ∷ 30 ∷ 31 ∷ 28 ∷ 29 ∷ 26
+        ∷ 27 ∷ 24 ∷ 25 ∷ 22 ∷ 23 ∷ 20 ∷ 21 ∷ 18 ∷ 19 ∷ 16 ∷ 17 ∷ 14 ∷ 15 ∷ 12 ∷ 13 ∷ 10 ∷ 11 ∷ 5 ∷ 4 ∷ 2 ∷ 3 ∷ 8
+        ∷ 9 ∷ 6 ∷ 7 ∷ 0 ∷ 1 ∷ []) $
+        leaves ! (full (τ 0) l-0 _ ∷ room (τ 1) l-1 ∷ full (τ 2) l-2 _ ∷ full (τ 3) l-3 _ ∷ full (τ 4) l-4 _ ∷ full
+        (τ 5) l-5 _ ∷ full (τ 6) l-6 _ ∷ full (τ 7) l-7 _ ∷ full (τ 8) l-8 _ ∷ full (τ 9) l-9 _ ∷ full (τ 10)
+        l-10 _ ∷ full (τ 11) l-11 _ ∷ full (τ 12) l-12 _ ∷ full (τ 13) l-13 _ ∷ full (τ 14) l-14 _ ∷ full (τ 15)
+        l-15 _ ∷ full (τ 16) l-16 _ ∷ full (τ 17) l-17 _ ∷ full (τ 18) l-18 _ ∷ full (τ 19) l-19 _ ∷ full (τ 20)
+        l-20 _ ∷ full (τ 21) l-21 _ ∷ full (τ 22) l-22 _ ∷ full (τ 23) l-23 _ ∷ full (τ 24) l-24 _ ∷ full (τ 25)
+        l-25 _ ∷ full (τ 26) l-26 _ ∷ full (τ 27) l-27 _ ∷ []) $
         by ! (exits (x2 .0) (x2 .1 .0) (x2 .1 .1 .0) (x2 .1 .1 .1 .0) (x2 .1 .1 .1 .1 .0) (s2 .1 .0 ∙ refl)
         (s2 .1 .1 .0 ∙ refl) (s2 .1 .1 .1 .0 ∙ refl) (s2 .1 .1 .1 .1 .0 ∙ refl)
         (s2 .1 .1 .1 .1 .1 ∙ refl)))))))))))))))))))))))))))))))))))))))))))))))))))))

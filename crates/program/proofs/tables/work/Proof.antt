@@ -22,8 +22,8 @@ use types.Kit.{Given, Item, ‵, raw, given, some, later, _⊛_, ⋆, _$_, _∵_
 use types.Kit.{join, pick, learn, rewrite, fsplit, fjoin, suffices, frame, await, done, Sq, runs, anyQ, atRet}
 use types.Part.{agg, whole, sub, look-in}
 use types.Run.{look, init, store, forget, stop, hop, fld, from, load, addr, lit, of-opd, and-then, no-more, assigns}
-use types.Run.{land, returns, enter, alloc1, alloc0, params1, pass1, pass0, free1, free0, bin, assigns-last, first}
-use types.Run.{blocks, branches, skips, jumps, exec, Below, again, loops}
+use types.Run.{land, returns, enter, alloc1, alloc0, params1, pass1, pass0, bin, assigns-last, first, blocks}
+use types.Run.{branches, skips, jumps, exec, Below, again, loops}
 use sound.WpLaws.{FmC, fmOf, WpFn-mono}
 use denote.RattleType.{owns}
 use denote.Laws.{Is}
@@ -43,6 +43,7 @@ use denote.Triple.Table.{entered, cited}
 use denote.Triple.Walked.{Stays, stay-slice, stay-none-slice, stay-none, walkOf, goes-slice, goes-none-slice}
 use denote.Triple.Walked.{goes-none, Walks, ends-at, walked, walk-meets}
 use denote.Exit.{yes}
+use Rattle.walks.proofs.Leaving.{full, room, leaves}
 use Rattle.walks.proofs.Locals.{tyAt, envOf, after}
 use Rattle.walks.proofs.Plain.{silent}
 use Rattle.walks.proofs.Typed.{num-typed}
@@ -782,112 +783,19 @@ module _ {M : Type 1} (𝓤 : URA M) (H : Heap 𝓤) (A : Atoms 𝓤) (W : Given
           ((i .1 .1 .1 .1 .1 .1 .1 .0))) .tally) u4 (s4 .0))) $
           rewrite ! 88 (λ (z : Val). ‵ (fat fullShare (τ 0) l-0 0 z)) (s4 .0 .0) refl $
           returns ! (look ! 88 refl) $
-          forget ! 88 refl $
-          forget ! 86 refl $
-          forget ! 84 refl $
-          forget ! 82 refl $
-          forget ! 80 refl $
-          forget ! 78 refl $
-          forget ! 76 refl $
-          forget ! 74 refl $
-          forget ! 72 refl $
-          forget ! 70 refl $
-          forget ! 68 refl $
-          forget ! 66 refl $
-          forget ! 62 refl $
-          forget ! 60 refl $
-          forget ! 34 refl $
-          forget ! 32 refl $
-          forget ! 30 refl $
-          forget ! 28 refl $
-          forget ! 26 refl $
-          forget ! 24 refl $
-          forget ! 22 refl $
-          forget ! 20 refl $
-          forget ! 18 refl $
-          forget ! 16 refl $
-          forget ! 14 refl $
-          forget ! 12 refl $
-          move ! (88 ∷ 89 ∷ []) $
-          free1 ! $
-          move ! (86 ∷ 87 ∷ []) $
-          free1 ! $
-          move ! (84 ∷ 85 ∷ []) $
-          free1 ! $
-          move ! (82 ∷ 83 ∷ []) $
-          free1 ! $
-          move ! (80 ∷ 81 ∷ []) $
-          free1 ! $
-          move ! (78 ∷ 79 ∷ []) $
-          free1 ! $
-          move ! (76 ∷ 77 ∷ []) $
-          free1 ! $
-          move ! (74 ∷ 75 ∷ []) $
-          free1 ! $
-          move ! (72 ∷ 73 ∷ []) $
-          free1 ! $
-          move ! (70 ∷ 71 ∷ []) $
-          free1 ! $
-          move ! (68 ∷ 69 ∷ []) $
-          free1 ! $
-          move ! (66 ∷ 67 ∷ []) $
-          free1 ! $
-          move ! (64 ∷ 65 ∷ []) $
-          free1 ! $
-          move ! (62 ∷ 63 ∷ []) $
-          free1 ! $
-          move ! (60 ∷ 61 ∷ []) $
-          free1 ! $
-          move ! (58 ∷ 59 ∷ []) $
-          free1 ! $
-          move ! (56 ∷ 57 ∷ []) $
-          free1 ! $
-          move ! (54 ∷ 55 ∷ []) $
-          free1 ! $
-          move ! (52 ∷ 53 ∷ []) $
-          free1 ! $
-          move ! (50 ∷ 51 ∷ []) $
-          free1 ! $
-          move ! (48 ∷ 49 ∷ []) $
-          free1 ! $
-          move ! (46 ∷ 47 ∷ []) $
-          free1 ! $
-          move ! (44 ∷ 45 ∷ []) $
-          free1 ! $
-          move ! (42 ∷ 43 ∷ []) $
-          free1 ! $
-          move ! (40 ∷ 41 ∷ []) $
-          free1 ! $
-          move ! (38 ∷ 39 ∷ []) $
-          free1 ! $
-          move ! (36 ∷ 37 ∷ []) $
-          free1 ! $
-          move ! (34 ∷ 35 ∷ []) $
-          free1 ! $
-          move ! (32 ∷ 33 ∷ []) $
-          free1 ! $
-          move ! (30 ∷ 31 ∷ []) $
-          free1 ! $
-          move ! (28 ∷ 29 ∷ []) $
-          free1 ! $
-          move ! (26 ∷ 27 ∷ []) $
-          free1 ! $
-          move ! (24 ∷ 25 ∷ []) $
-          free1 ! $
-          move ! (22 ∷ 23 ∷ []) $
-          free1 ! $
-          move ! (20 ∷ 21 ∷ []) $
-          free1 ! $
-          move ! (18 ∷ 19 ∷ []) $
-          free1 ! $
-          move ! (16 ∷ 17 ∷ []) $
-          free1 ! $
-          move ! (14 ∷ 15 ∷ []) $
-          free1 ! $
-          move ! (12 ∷ 13 ∷ []) $
-          free1 ! $
-          free0 ! $
-          move ! (8 ∷ 9 ∷ 11 ∷ 10 ∷ 6 ∷ 7 ∷ 4 ∷ 5 ∷ 2 ∷ 3 ∷ 0 ∷ 1 ∷ []) $
+          move ! (88 ∷ 89 ∷ 86 ∷ 87 ∷ 84 ∷ 85 ∷ 82 ∷ 83 ∷ 80 ∷ 81 ∷ 78 ∷ 79 ∷ 76 ∷ 77 ∷ 74 ∷ 75 ∷ 72 ∷ 73 ∷ 70 ∷ 71
+          ∷ 68 ∷ 69 ∷ 66 ∷ 67 ∷ 64 ∷ 65 ∷ 62 ∷ 63 ∷ 60 ∷ 61 ∷ 58 ∷ 59 ∷ 56 ∷ 57 ∷ 54 ∷ 55 ∷ 52 ∷ 53 ∷ 50 ∷ 51 ∷ 48
+          ∷ 49 ∷ 46 ∷ 47 ∷ 44 ∷ 45 ∷ 42 ∷ 43 ∷ 40 ∷ 41 ∷ 38 ∷ 39 ∷ 36 ∷ 37 ∷ 34 ∷ 35 ∷ 32 ∷ 33 ∷ 30 ∷ 31 ∷ 28 ∷ 29
+          ∷ 26 ∷ 27 ∷ 24 ∷ 25 ∷ 22 ∷ 23 ∷ 20 ∷ 21 ∷ 18 ∷ 19 ∷ 16 ∷ 17 ∷ 14 ∷ 15 ∷ 12 ∷ 13 ∷ 8 ∷ 9 ∷ 11 ∷ 10 ∷ 6 ∷ 7
+          ∷ 4 ∷ 5 ∷ 2 ∷ 3 ∷ 0 ∷ 1 ∷ []) $
+          leaves ! (full (τ 0) l-0 _ ∷ full (τ 1) l-1 _ ∷ full (τ 2) l-2 _ ∷ full (τ 3) l-3 _ ∷ full (τ 4) l-4 _ ∷ full
+          (τ 5) l-5 _ ∷ full (τ 6) l-6 _ ∷ full (τ 7) l-7 _ ∷ full (τ 8) l-8 _ ∷ full (τ 9) l-9 _ ∷ full (τ 10)
+          l-10 _ ∷ full (τ 11) l-11 _ ∷ room (τ 12) l-12 ∷ full (τ 13) l-13 _ ∷ full (τ 14) l-14 _ ∷ room (τ 15)
+          l-15 ∷ room (τ 16) l-16 ∷ room (τ 17) l-17 ∷ room (τ 18) l-18 ∷ room (τ 19) l-19 ∷ room (τ 20)
+          l-20 ∷ room (τ 21) l-21 ∷ room (τ 22) l-22 ∷ room (τ 23) l-23 ∷ room (τ 24) l-24 ∷ room (τ 25)
+          l-25 ∷ room (τ 26) l-26 ∷ full (τ 27) l-27 _ ∷ full (τ 28) l-28 _ ∷ full (τ 29) l-29 _ ∷ full (τ 30)
+          l-30 _ ∷ full (τ 31) l-31 _ ∷ full (τ 32) l-32 _ ∷ full (τ 33) l-33 _ ∷ full (τ 34) l-34 _ ∷ full (τ 35)
+          l-35 _ ∷ full (τ 36) l-36 _ ∷ full (τ 37) l-37 _ ∷ full (τ 38) l-38 _ ∷ []) $
           by ! (exits (runOf (x3 .0) (x3 .1) log (sessionOf ((i .1 .1 .0)) ((i .1 .1 .1 .1 .0)) ((i .1 .1 .1 .1 .1 .0))
           ((i .1 .1 .1 .1 .1 .1 .0)) ((i .1 .1 .1 .1 .1 .1 .1 .0))) .tally) (x3 .0) (runOf (x3 .0) (x3 .1) log
           (sessionOf ((i .1 .1 .0)) ((i .1 .1 .1 .1 .0)) ((i .1 .1 .1 .1 .1 .0)) ((i .1 .1 .1 .1 .1 .1 .0))

@@ -23,8 +23,8 @@ use types.Kit.{use2, split, join, pick, learn, rewrite, fsplit, fjoin, suffices,
 use types.Kit.{atRet}
 use types.Part.{whole, sub, look-in}
 use types.Run.{Opd, look, init, store, forget, stop, fld, from, load, of-opd, un, and-then, no-more, assigns, land}
-use types.Run.{returns, enter, alloc1, alloc0, params1, pass1, pass0, free1, free0, assigns-last, first, blocks}
-use types.Run.{branches, skips, jumps, exec, Below, again, loops}
+use types.Run.{returns, enter, alloc1, alloc0, params1, pass1, pass0, assigns-last, first, blocks, branches, skips}
+use types.Run.{jumps, exec, Below, again, loops}
 use sound.WpLaws.{FmC, fmOf, WpFn-mono}
 use denote.RattleType.{owns}
 use denote.Laws.{Is}
@@ -44,6 +44,7 @@ use denote.Triple.Table.{entered, cited}
 use denote.Triple.Walked.{says, Stays, stay-none-slice, stay-none, walkOf, goes-none-slice, goes-none, Walks}
 use denote.Triple.Walked.{ends-at, walked, walk-meets}
 use denote.Exit.{yes}
+use Rattle.walks.proofs.Leaving.{full, room, leaves}
 use Rattle.walks.proofs.Locals.{tyAt, envOf, after}
 use Rattle.walks.proofs.Plain.{look-at}
 use Rattle.walks.proofs.Typed.{num-typed, bool-typed, wider-w16}
@@ -336,40 +337,11 @@ module _ {M : Type 1} (𝓤 : URA M) (H : Heap 𝓤) (A : Atoms 𝓤) (W : Given
           (s5))) $
           rewrite ! 24 (λ (z : Val). ‵ (fat fullShare (τ 0) l-0 0 z)) (s5 .0) refl $
           returns ! (look ! 24 refl) $
-          forget ! 24 refl $
-          forget ! 22 refl $
-          forget ! 20 refl $
-          forget ! 18 refl $
-          forget ! 16 refl $
-          forget ! 14 refl $
-          forget ! 12 refl $
-          forget ! 10 refl $
-          forget ! 4 refl $
-          move ! (24 ∷ 25 ∷ []) $
-          free1 ! $
-          move ! (22 ∷ 23 ∷ []) $
-          free1 ! $
-          move ! (20 ∷ 21 ∷ []) $
-          free1 ! $
-          move ! (18 ∷ 19 ∷ []) $
-          free1 ! $
-          move ! (16 ∷ 17 ∷ []) $
-          free1 ! $
-          move ! (14 ∷ 15 ∷ []) $
-          free1 ! $
-          move ! (12 ∷ 13 ∷ []) $
-          free1 ! $
-          move ! (10 ∷ 11 ∷ []) $
-          free1 ! $
-          move ! (8 ∷ 9 ∷ []) $
-          free1 ! $
-          move ! (6 ∷ 7 ∷ []) $
-          free1 ! $
-          move ! (4 ∷ 5 ∷ []) $
-          free1 ! $
-          move ! (2 ∷ 3 ∷ []) $
-          free1 ! $
-          free0 ! $
+          move ! (24 ∷ 25 ∷ 22 ∷ 23 ∷ 20 ∷ 21 ∷ 18 ∷ 19 ∷ 16 ∷ 17 ∷ 14 ∷ 15 ∷ 12 ∷ 13 ∷ 10 ∷ 11 ∷ 8 ∷ 9 ∷ 6 ∷ 7 ∷ 4 ∷ 5
+          ∷ 2 ∷ 3 ∷ 0 ∷ 1 ∷ []) $
+          leaves ! (full (τ 0) l-0 _ ∷ full (τ 1) l-1 _ ∷ full (τ 2) l-2 _ ∷ full (τ 3) l-3 _ ∷ full (τ 4) l-4 _ ∷ full
+          (τ 5) l-5 _ ∷ full (τ 6) l-6 _ ∷ full (τ 7) l-7 _ ∷ room (τ 8) l-8 ∷ room (τ 9) l-9 ∷ full (τ 10)
+          l-10 _ ∷ room (τ 11) l-11 ∷ []) $
           by ! (exits (answer-5 i) (pass-end versions position (i .1 .0) (i .0) over ∙ (i .1 .1 .1 .1 .1))
           (s5 .1)))))))))
 

@@ -21,8 +21,8 @@ use contract.Monad.{Fun}
 use contract.Running.{givenOf, tables, tablesOf}
 use types.Kit.{Given, ‵, raw, given, some, later, _⊛_, ⋆, _$_, _∵_, !, qed, by, move, drop, use0, use1, use2, split}
 use types.Kit.{join, pick, learn, rewrite, fsplit, fjoin, suffices, frame, await, done, atRet}
-use types.Run.{look, init, forget, stop, from, load, un, and-then, no-more, assigns, land, returns, enter, alloc1}
-use types.Run.{alloc0, params1, pass1, pass0, free1, free0, first, branches, skips, exec, returns-within}
+use types.Run.{look, init, stop, from, load, un, and-then, no-more, assigns, land, returns, enter, alloc1, alloc0}
+use types.Run.{params1, pass1, pass0, first, branches, skips, exec, returns-within}
 use sound.WpLaws.{FmC, fmOf, WpFn-mono}
 use denote.RattleType.{owns}
 use denote.Laws.{Is}
@@ -41,6 +41,7 @@ use denote.Triple.Table.{entered, cited}
 use denote.Triple.Walked.{says, Stays, stay-none-slice, stay-none, walkOf, goes-none-slice, goes-none, Walks}
 use denote.Triple.Walked.{ends-at, walked, walk-meets}
 use denote.Exit.{yes}
+use Rattle.walks.proofs.Leaving.{full, room, leaves}
 use Rattle.walks.proofs.Locals.{tyAt, envOf}
 use Rattle.walks.proofs.Typed.{bool-typed, wider-w16}
 use Rattle.walks.proofs.Value as Value
@@ -186,22 +187,8 @@ module _ {M : Type 1} (𝓤 : URA M) (H : Heap 𝓤) (A : Atoms 𝓤) (W : Given
         land ! (from ! (stop !)) (init ! 10 refl (Value.typed T.the-type T′.the-laws 𝓤 H A W emptyEntry u2 (s2))) $
         rewrite ! 10 (λ (z : Val). ‵ (fat fullShare (τ 0) l-0 0 z)) (s2 .0) refl $
         returns-within ! Post refl (look ! 10 refl) $
-        forget ! 10 refl $
-        forget ! 8 refl $
-        forget ! 6 refl $
-        forget ! 4 refl $
-        move ! (10 ∷ 11 ∷ []) $
-        free1 ! $
-        move ! (8 ∷ 9 ∷ []) $
-        free1 ! $
-        move ! (6 ∷ 7 ∷ []) $
-        free1 ! $
-        move ! (4 ∷ 5 ∷ []) $
-        free1 ! $
-        move ! (2 ∷ 3 ∷ []) $
-        free1 ! $
-        free0 ! $
-        move ! (1 ∷ 0 ∷ []) $
+        move ! (10 ∷ 11 ∷ 8 ∷ 9 ∷ 6 ∷ 7 ∷ 4 ∷ 5 ∷ 2 ∷ 3 ∷ 1 ∷ 0 ∷ []) $
+        leaves ! (full (τ 0) l-0 _ ∷ full (τ 1) l-1 _ ∷ full (τ 2) l-2 _ ∷ full (τ 3) l-3 _ ∷ room (τ 4) l-4 ∷ []) $
         by ! (exits emptyEntry (named-none versions slot on) (s2 .1))))))
         (λ off.
         skips ! $ exec ! C Λ (envOf mir′.locals (l-0 ∷ l-1 ∷ l-2 ∷ l-3 ∷ l-4 ∷ [])) mir′.t-3 (atRet
@@ -233,23 +220,8 @@ module _ {M : Type 1} (𝓤 : URA M) (H : Heap 𝓤) (A : Atoms 𝓤) (W : Given
         land ! (from ! (stop !)) (init ! 10 refl (Value.typed T.the-type T′.the-laws 𝓤 H A W entry-at-3 u3 (s3))) $
         rewrite ! 10 (λ (z : Val). ‵ (fat fullShare (τ 0) l-0 0 z)) (s3 .0) refl $
         returns ! (look ! 10 refl) $
-        forget ! 10 refl $
-        forget ! 8 refl $
-        forget ! 6 refl $
-        forget ! 4 refl $
-        forget ! 2 refl $
-        move ! (10 ∷ 11 ∷ []) $
-        free1 ! $
-        move ! (8 ∷ 9 ∷ []) $
-        free1 ! $
-        move ! (6 ∷ 7 ∷ []) $
-        free1 ! $
-        move ! (4 ∷ 5 ∷ []) $
-        free1 ! $
-        move ! (2 ∷ 3 ∷ []) $
-        free1 ! $
-        free0 ! $
-        move ! (1 ∷ 0 ∷ []) $
+        move ! (10 ∷ 11 ∷ 8 ∷ 9 ∷ 6 ∷ 7 ∷ 4 ∷ 5 ∷ 2 ∷ 3 ∷ 1 ∷ 0 ∷ []) $
+        leaves ! (full (τ 0) l-0 _ ∷ full (τ 1) l-1 _ ∷ full (τ 2) l-2 _ ∷ full (τ 3) l-3 _ ∷ full (τ 4) l-4 _ ∷ []) $
         by ! (exits entry-at-3 (named-some versions slot off) (s3 .1))))))))))))))
 
 module _ {M : Type 1} (𝓤 : URA M) (H : Heap 𝓤) (A : Atoms 𝓤) (W : Given 𝓤 H A) (mem : Memory

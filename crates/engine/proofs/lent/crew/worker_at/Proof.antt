@@ -1,9 +1,9 @@
 -- Made by tools/regenerate from tools/walks/entries.py: change that and run it again, never this file.
--- `engine::lent::crew::worker_at` meets its contract: a walk of its code, by hand, with a branch and a call in each
--- arm.
+-- `engine::lent::crew::worker_at` meets its contract: a walk of its code, as the version table's, with a branch and a
+-- call in each arm.
 -- Past the end the definition has the empty entry. Assumes nothing.
-use mathlib.Core.Path.{_≡_, refl, sym, ap, _∙_, subst}
-use Prim.Native.Nat.{ℕ, zero, suc, _<_, _≤_, _^_}
+use mathlib.Core.Path.{_≡_, refl, sym, subst}
+use Prim.Native.Nat.{ℕ, _<_, _^_}
 use mathlib.Core.Bool.{Bool}
 use mathlib.Core.List.{List, [], _∷_}
 use lib.ListN.{length, getD}
@@ -20,57 +20,11 @@ use prog.Wp.{Heap, Env, Calls, Loops, WpFn, Tables}
 use ghost.Atoms.{Atoms, sem}
 use contract.Monad.{Fun}
 use contract.Running.{givenOf, tables, tablesOf}
-use types.Kit.{
-  Given,
-  Sq,
-  runs,
-  atRet,
-  ‵,
-  _⊛_,
-  _$_,
-  _∵_,
-  !,
-  qed,
-  by,
-  move,
-  drop,
-  split,
-  join,
-  rewrite,
-  fsplit,
-  fjoin,
-  suffices,
-  frame,
-  done,
-}
+use types.Kit.{Given, Sq, runs, atRet, ‵, _⊛_, _$_, _∵_, !, qed, by, move, drop, split, join, rewrite, fsplit}
+use types.Kit.{fjoin, suffices, frame, done}
 use types.Part.{whole, sub, look-in}
-use types.Run.{
-  look,
-  init,
-  forget,
-  stop,
-  fld,
-  from,
-  load,
-  of-opd,
-  bin,
-  and-then,
-  no-more,
-  assigns,
-  land-last,
-  first,
-  branches,
-  exec,
-  returns,
-  enter,
-  alloc1,
-  alloc0,
-  params1,
-  pass1,
-  pass0,
-  free1,
-  free0,
-}
+use types.Run.{look, init, forget, stop, fld, from, load, of-opd, bin, and-then, no-more, assigns, land-last, first}
+use types.Run.{branches, exec, returns, enter, alloc1, alloc0, params1, pass1, pass0, free1, free0}
 use sound.WpLaws.{FmC, fmOf, WpFn-mono}
 use denote.RattleType.{owns}
 use denote.Laws.{Is}
@@ -85,19 +39,8 @@ use denote.Triple.Statement.{Triple}
 use denote.Triple.Entry.{Vals, onEntry}
 use denote.Triple.Spec.{Meets, tripleOf}
 use denote.Triple.Table.{entered, cited}
-use denote.Triple.Walked.{
-  says,
-  Stays,
-  stay-none-slice,
-  stay-none,
-  walkOf,
-  goes-none-slice,
-  goes-none,
-  Walks,
-  ends-at,
-  walked,
-  walk-meets,
-}
+use denote.Triple.Walked.{says, Stays, stay-none-slice, stay-none, walkOf, goes-none-slice, goes-none, Walks}
+use denote.Triple.Walked.{ends-at, walked, walk-meets}
 use denote.Exit.{yes}
 use Rattle.engine.specs.declared.Worker.{Worker}
 use Rattle.engine.specs.Workers.{idleWorker}
@@ -105,20 +48,8 @@ use Rattle.engine.proofs.Worker as T
 use Rattle.engine.proofs.Worker.Laws as T′
 use Rattle.walks.proofs.Loans.{sees}
 use Rattle.walks.proofs.Step.{calls-copy-last, calls-plain-last}
-use Rattle.engine.proofs.Laws.Lent.Crew.{
-  mach,
-  Good,
-  vec,
-  IsEntry,
-  Entry,
-  at-entry,
-  entry-asks,
-  entry-says,
-  Empty,
-  to-empty,
-  empty-goes,
-  empty-gives,
-}
+use Rattle.engine.proofs.Laws.Lent.Crew.{mach, Good, vec, IsEntry, Entry, at-entry, entry-asks, entry-says}
+use Rattle.engine.proofs.Laws.Lent.Crew.{Empty, to-empty, empty-goes, empty-gives}
 use Rattle.engine.proofs.Laws.Lent.Lists.{past}
 use Rattle.walks.proofs.Locals.{tyAt, envOf}
 use Rattle.engine.proofs.lent.crew.entry.Symbol as entry-def

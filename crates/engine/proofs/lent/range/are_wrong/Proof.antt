@@ -20,8 +20,8 @@ use contract.Monad.{Fun}
 use contract.Running.{givenOf, tables, tablesOf}
 use types.Kit.{Given, ‵, raw, given, some, later, _⊛_, ⋆, _$_, _∵_, !, qed, by, move, drop, use1, split, join, pick}
 use types.Kit.{learn, rewrite, fsplit, fjoin, suffices, frame, await, done}
-use types.Run.{look, init, forget, stop, from, load, and-then, no-more, assigns, land, returns, enter, alloc1}
-use types.Run.{alloc0, params1, pass1, pass0, free1, free0, bin}
+use types.Run.{look, init, stop, from, load, and-then, no-more, assigns, land, returns, enter, alloc1, alloc0}
+use types.Run.{params1, pass1, pass0, bin}
 use sound.WpLaws.{FmC, fmOf, WpFn-mono}
 use denote.RattleType.{owns}
 use denote.Laws.{Is}
@@ -40,6 +40,7 @@ use denote.Triple.Table.{entered, cited}
 use denote.Triple.Walked.{says, Stays, stay-none-slice, stay-none, walkOf, goes-none-slice, goes-none, Walks}
 use denote.Triple.Walked.{ends-at, walked, walk-meets}
 use denote.Exit.{yes}
+use Rattle.walks.proofs.Leaving.{full, leaves}
 use Rattle.walks.proofs.Locals.{tyAt}
 use Rattle.walks.proofs.Typed.{bool-typed}
 use Rattle.walks.proofs.Value as Value
@@ -271,26 +272,9 @@ module _ {M : Type 1} (𝓤 : URA M) (H : Heap 𝓤) (A : Atoms 𝓤) (W : Given
         assigns ! (bin ! (load ! (from ! (stop !)) (look ! 6 refl)) (load ! (from ! (stop !)) (look ! 4 refl)) tt)
         (from ! (stop !)) (init ! 14 refl (tt, tt)) $
         returns ! (look ! 14 refl) $
-        forget ! 14 refl $
-        forget ! 12 refl $
-        forget ! 10 refl $
-        forget ! 8 refl $
-        forget ! 6 refl $
-        forget ! 4 refl $
-        move ! (14 ∷ 15 ∷ []) $
-        free1 ! $
-        move ! (12 ∷ 13 ∷ []) $
-        free1 ! $
-        move ! (10 ∷ 11 ∷ []) $
-        free1 ! $
-        move ! (8 ∷ 9 ∷ []) $
-        free1 ! $
-        move ! (6 ∷ 7 ∷ []) $
-        free1 ! $
-        move ! (4 ∷ 5 ∷ []) $
-        free1 ! $
-        free0 ! $
-        move ! (3 ∷ 1 ∷ 2 ∷ 0 ∷ []) $
+        move ! (14 ∷ 15 ∷ 12 ∷ 13 ∷ 10 ∷ 11 ∷ 8 ∷ 9 ∷ 6 ∷ 7 ∷ 4 ∷ 5 ∷ 3 ∷ 1 ∷ 2 ∷ 0 ∷ []) $
+        leaves ! (full (τ 0) l-0 _ ∷ full (τ 1) l-1 _ ∷ full (τ 2) l-2 _ ∷ full (τ 3) l-3 _ ∷ full (τ 4) l-4 _ ∷ full
+        (τ 5) l-5 _ ∷ []) $
         by ! (exits (has-wrong-worker-1 || has-wrong-row-2) refl)))))))))))))
 
 module _ {M : Type 1} (𝓤 : URA M) (H : Heap 𝓤) (A : Atoms 𝓤) (W : Given 𝓤 H A) (mem : Memory

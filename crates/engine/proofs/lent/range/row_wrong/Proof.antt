@@ -21,8 +21,8 @@ use contract.Monad.{Fun}
 use contract.Running.{givenOf, tables, tablesOf}
 use types.Kit.{Given, ‵, raw, given, some, later, _⊛_, ⋆, _$_, _∵_, !, qed, by, move, drop, use0, use1, use2, split}
 use types.Kit.{join, pick, learn, rewrite, fsplit, fjoin, suffices, frame, await, done, atRet}
-use types.Run.{look, init, forget, stop, from, load, of-opd, and-then, no-more, assigns, land, returns, enter}
-use types.Run.{alloc1, alloc0, params1, pass1, pass0, free1, free0, first, branches, skips, exec, returns-within}
+use types.Run.{look, init, stop, from, load, of-opd, and-then, no-more, assigns, land, returns, enter, alloc1}
+use types.Run.{alloc0, params1, pass1, pass0, first, branches, skips, exec, returns-within}
 use sound.WpLaws.{FmC, fmOf, WpFn-mono}
 use denote.RattleType.{owns}
 use denote.Laws.{Is}
@@ -41,6 +41,7 @@ use denote.Triple.Table.{entered, cited}
 use denote.Triple.Walked.{says, Stays, stay-none-slice, stay-none, walkOf, goes-none-slice, goes-none, Walks}
 use denote.Triple.Walked.{ends-at, walked, walk-meets}
 use denote.Exit.{yes}
+use Rattle.walks.proofs.Leaving.{full, room, leaves}
 use Rattle.walks.proofs.Locals.{tyAt, envOf}
 use Rattle.walks.proofs.Typed.{num-typed, bool-typed}
 use Rattle.walks.proofs.Value as Value
@@ -227,33 +228,9 @@ module _ {M : Type 1} (𝓤 : URA M) (H : Heap 𝓤) (A : Atoms 𝓤) (W : Given
         (λ on.
         assigns ! (of-opd ! (load ! (from ! (stop !)) (look ! 14 refl))) (from ! (stop !)) (init ! 18 refl (tt, tt)) $
         returns-within ! Post refl (look ! 18 refl) $
-        forget ! 18 refl $
-        forget ! 16 refl $
-        forget ! 14 refl $
-        forget ! 12 refl $
-        forget ! 10 refl $
-        forget ! 8 refl $
-        forget ! 2 refl $
-        move ! (18 ∷ 19 ∷ []) $
-        free1 ! $
-        move ! (16 ∷ 17 ∷ []) $
-        free1 ! $
-        move ! (14 ∷ 15 ∷ []) $
-        free1 ! $
-        move ! (12 ∷ 13 ∷ []) $
-        free1 ! $
-        move ! (10 ∷ 11 ∷ []) $
-        free1 ! $
-        move ! (8 ∷ 9 ∷ []) $
-        free1 ! $
-        move ! (6 ∷ 7 ∷ []) $
-        free1 ! $
-        move ! (4 ∷ 5 ∷ []) $
-        free1 ! $
-        move ! (2 ∷ 3 ∷ []) $
-        free1 ! $
-        free0 ! $
-        move ! (1 ∷ 0 ∷ []) $
+        move ! (18 ∷ 19 ∷ 16 ∷ 17 ∷ 14 ∷ 15 ∷ 12 ∷ 13 ∷ 10 ∷ 11 ∷ 8 ∷ 9 ∷ 6 ∷ 7 ∷ 4 ∷ 5 ∷ 2 ∷ 3 ∷ 1 ∷ 0 ∷ []) $
+        leaves ! (full (τ 0) l-0 _ ∷ full (τ 1) l-1 _ ∷ full (τ 2) l-2 _ ∷ full (τ 3) l-3 _ ∷ full (τ 4) l-4 _ ∷ full
+        (τ 5) l-5 _ ∷ room (τ 6) l-6 ∷ room (τ 7) l-7 ∷ full (τ 8) l-8 _ ∷ []) $
         by ! (exits wrong (settled-right wrong crew number (row .progress) on)))
         (λ off.
         skips ! $ exec ! C Λ (envOf mir′.locals (l-0 ∷ l-1 ∷ l-2 ∷ l-3 ∷ l-4 ∷ l-5 ∷ l-6 ∷ l-7 ∷ l-8 ∷ [])) mir′.t-4
@@ -300,35 +277,9 @@ module _ {M : Type 1} (𝓤 : URA M) (H : Heap 𝓤) (A : Atoms 𝓤) (W : Given
         land ! (from ! (stop !)) (init ! 18 refl (bool-typed u4 unheld-4 (s4))) $
         rewrite ! 18 (λ (z : Val). ‵ (fat fullShare (τ 0) l-0 0 z)) (s4) refl $
         returns ! (look ! 18 refl) $
-        forget ! 18 refl $
-        forget ! 16 refl $
-        forget ! 14 refl $
-        forget ! 12 refl $
-        forget ! 10 refl $
-        forget ! 8 refl $
-        forget ! 6 refl $
-        forget ! 4 refl $
-        forget ! 2 refl $
-        move ! (18 ∷ 19 ∷ []) $
-        free1 ! $
-        move ! (16 ∷ 17 ∷ []) $
-        free1 ! $
-        move ! (14 ∷ 15 ∷ []) $
-        free1 ! $
-        move ! (12 ∷ 13 ∷ []) $
-        free1 ! $
-        move ! (10 ∷ 11 ∷ []) $
-        free1 ! $
-        move ! (8 ∷ 9 ∷ []) $
-        free1 ! $
-        move ! (6 ∷ 7 ∷ []) $
-        free1 ! $
-        move ! (4 ∷ 5 ∷ []) $
-        free1 ! $
-        move ! (2 ∷ 3 ∷ []) $
-        free1 ! $
-        free0 ! $
-        move ! (1 ∷ 0 ∷ []) $
+        move ! (18 ∷ 19 ∷ 16 ∷ 17 ∷ 14 ∷ 15 ∷ 12 ∷ 13 ∷ 10 ∷ 11 ∷ 8 ∷ 9 ∷ 6 ∷ 7 ∷ 4 ∷ 5 ∷ 2 ∷ 3 ∷ 1 ∷ 0 ∷ []) $
+        leaves ! (full (τ 0) l-0 _ ∷ full (τ 1) l-1 _ ∷ full (τ 2) l-2 _ ∷ full (τ 3) l-3 _ ∷ full (τ 4) l-4 _ ∷ full
+        (τ 5) l-5 _ ∷ full (τ 6) l-6 _ ∷ full (τ 7) l-7 _ ∷ full (τ 8) l-8 _ ∷ []) $
         by ! (exits unheld-4 (unheld-wrong wrong crew number (row .progress) off))))))))))))))))))))))))
 
 module _ {M : Type 1} (𝓤 : URA M) (H : Heap 𝓤) (A : Atoms 𝓤) (W : Given 𝓤 H A) (mem : Memory
