@@ -91,9 +91,6 @@ CALLEES = [
          params=[NUMBERS], facts=[('r', 'fewOf (numbers .size)')]),
     dict(fn='lent-transactions', name='LentTransactions', at='lent.range.lent_transactions', made='Range', ret='usize',
          params=[NUMBERS, ('lent', 'usize')], facts=[('r', 'lesserOf (fewOf (numbers .size)) lent')]),
-    dict(fn='has-wrong-numbers', name='HasWrongNumbers', at='lent.range.has_wrong_numbers', made='Range', ret='bool',
-         params=[NUMBERS], facts=[('r', '(numbersWrong (joined numbers [] []) || someBelow 8 (placedWrong '
-                                   '(joined numbers [] [])))')]),
     dict(fn='has-wrong-worker', name='HasWrongWorker', at='lent.range.has_wrong_worker', made='Range', ret='bool',
          params=[ROWS, CREW, NUMBERS], facts=[('r', 'someBelow 8 (workerWrong %s)' % JOINED)]),
     dict(fn='has-wrong-row', name='HasWrongRow', at='lent.range.has_wrong_row', made='Range', ret='bool',

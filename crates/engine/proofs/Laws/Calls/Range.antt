@@ -43,7 +43,7 @@ use Rattle.engine.specs.Counting.{someBelow}
 use Rattle.engine.specs.Lent.{joined}
 use Rattle.engine.specs.LawsHeld.{wrongAmong, fewOf}
 use Rattle.engine.specs.LawsLent.{settled, executorOf, notHeldBy}
-use Rattle.engine.specs.Range.{numbersWrong, placedWrong, workerWrong, rowWrong}
+use Rattle.engine.specs.Range.{workerWrong, rowWrong}
 use Rattle.engine.specs.Rows.{executingBy}
 use Rattle.engine.specs.Workers.{isIdle, countAbove}
 use Rattle.engine.proofs.Row as R′
@@ -62,7 +62,6 @@ use Rattle.engine.proofs.lent.range.unheld as unheld
 use Rattle.engine.proofs.lent.range.row_wrong as row-wrong
 use Rattle.engine.proofs.lent.range.all_transactions as all-transactions
 use Rattle.engine.proofs.lent.range.lent_transactions as lent-transactions
-use Rattle.engine.proofs.lent.range.has_wrong_numbers as has-wrong-numbers
 use Rattle.engine.proofs.lent.range.has_wrong_worker as has-wrong-worker
 use Rattle.engine.proofs.lent.range.has_wrong_row as has-wrong-row
 use Rattle.engine.proofs.lent.range.are_wrong as are-wrong
@@ -629,56 +628,6 @@ module _ {M : Type 1} (𝓤 : URA M) (H : Heap 𝓤) (A : Atoms 𝓤) (W : Given
       show ! (lent-transactions-after u) (tt) $
       check ! ((ap only (is .0) ∙ ap (vint w64) (e), subst (λ (z : ℕ). z < 2 ^ 64) (e) (is .1))) $ keep ! ([]) $
       done !))))
-
--- ---- `has-wrong-numbers`
-module _ {M : Type 1} (𝓤 : URA M) (H : Heap 𝓤) (A : Atoms 𝓤) (mem : Memory → SProp 𝓤) (run : Routine → Fun 𝓤) where
-  abbrev pub HasWrongNumbers : Contract 𝓤
-  HasWrongNumbers = tripleOf 𝓤 H A has-wrong-numbers.signature (has-wrong-numbers.spec 𝓤 H A mem run)
-
-module _ {M : Type 1} (𝓤 : URA M) (H : Heap 𝓤) (A : Atoms 𝓤) (W : Given 𝓤 H A) (mem : Memory
-    → SProp 𝓤) (run : Routine → Fun 𝓤) (numbers : Numbers) where
-  abbrev args-has-wrong-numbers : (Numbers × Unit {0})
-  args-has-wrong-numbers = (numbers, tt)
-
-  abbrev pub to-has-wrong-numbers : HasWrongNumbers 𝓤 H A mem run .Ghost
-  to-has-wrong-numbers = (
-    (tt, tt, tt, args-has-wrong-numbers, (Value.mach B.the-type B′.the-laws numbers ∷ [], tt)),
-    tt,
-  )
-
-  abbrev pub has-wrong-numbers-lent : List (Item 𝓤)
-  has-wrong-numbers-lent = []
-
-  pub has-wrong-numbers-goes : Value.Good B.the-type B′.the-laws numbers → ent 𝓤 (⋆ 𝓤 H A has-wrong-numbers-lent)
-      (HasWrongNumbers 𝓤 H A mem run .pre to-has-wrong-numbers)
-  has-wrong-numbers-goes g-numbers =
-      qed W has-wrong-numbers-lent ∵ nothing ! $ nothing ! $
-      owned ! B.the-row (Is B.the-row) (LL.makes B.the-type B′.the-plain 𝓤 H A) numbers _ g-numbers $ fjoin ! $
-      move ! (1 ∷ 0 ∷ []) $ join ! $ nothing ! $ move ! (1 ∷ 0 ∷ []) $ done !
-
-  abbrev pub has-wrong-numbers-said : Val → Unit {0} → Type 0
-  has-wrong-numbers-said u x = u ≡ vbool ((numbersWrong (joined numbers [] []) || someBelow 8 (placedWrong
-      (joined numbers [] []))))
-
-  abbrev pub has-wrong-numbers-after : Val → Unit {0} → SProp 𝓤
-  has-wrong-numbers-after u x = guard 𝓤 (has-wrong-numbers-said u x) (emp 𝓤)
-
-  pub has-wrong-numbers-gives : (u : Val) → ent 𝓤 (HasWrongNumbers 𝓤 H A mem run .post to-has-wrong-numbers u)
-      (H .⇛ (ex 𝓤 (has-wrong-numbers-after u)))
-  has-wrong-numbers-gives u =
-      qed W (raw (HasWrongNumbers 𝓤 H A mem run .post to-has-wrong-numbers u) ∷ []) ∵ updating ! $
-      use1 W (later (some (λ (r : Bool). ((‵ ftrue) ⊛ ‵ (bool .own r (u ∷ []))) ⊛ raw
-      (ensured 𝓤 H A has-wrong-numbers.ended (has-wrong-numbers.clauses 𝓤 H A mem run)
-      tt args-has-wrong-numbers tt r)))) (id⊢ 𝓤 _) $ await ! tt $ pick ! (λ r.
-      split ! $ move ! (1 ∷ []) $
-      use1 W (some (λ (zs : (Unit {0} × Unit {0})). ‵
-      (lasts has-wrong-numbers.ended tt args-has-wrong-numbers zs) ⊛ raw (fact 𝓤 (r ≡ (numbersWrong
-      (joined numbers [] []) || someBelow 8 (placedWrong (joined numbers [] []))))))) (id⊢ 𝓤 _) $ pick ! (λ zs.
-      split ! $ move ! (1 ∷ []) $
-      heard ! (r ≡ (numbersWrong (joined numbers [] []) || someBelow 8 (placedWrong (joined numbers [] []))))
-      (λ e. fsplit ! $ drop ! $ move ! (1 ∷ []) $ split ! $ move ! (1 ∷ []) $
-      peeks ! bool (Is bool) (shows 𝓤 H A bool) r (u ∷ []) (λ is. drop ! $ at-once ! $
-      show ! (has-wrong-numbers-after u) (tt) $ check ! (ap only is ∙ ap vbool (e)) $ keep ! ([]) $ done !))))
 
 -- ---- `has-wrong-worker`
 module _ {M : Type 1} (𝓤 : URA M) (H : Heap 𝓤) (A : Atoms 𝓤) (mem : Memory → SProp 𝓤) (run : Routine → Fun 𝓤) where
