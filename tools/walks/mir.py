@@ -1,7 +1,6 @@
 """The MIR of a crate, as `rattle-print-mir` prints it: one term. Nothing is proved to have it."""
 import os
 import re
-import shutil
 import subprocess
 import tempfile
 
@@ -78,10 +77,9 @@ def functions(text):
 
 
 def toolchain():
-    """the folder of the toolchain's programs and libraries for this machine"""
-    rt = shutil.which('rt') or '/opt/rattle/bin/rt'
-    home = os.path.dirname(os.path.dirname(os.path.realpath(rt)))
-    return os.path.join(home, 'on', os.uname().machine)
+    """the folder of the toolchain's programs and libraries for this machine: `rt doc` tells where the kit is"""
+    guide = subprocess.run(['rt', 'doc'], capture_output=True, text=True, check=True).stdout.strip()
+    return os.path.join(os.path.dirname(os.path.dirname(guide)), 'on', os.uname().machine)
 
 
 def reached(crate, uses):
