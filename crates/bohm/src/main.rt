@@ -1,4 +1,6 @@
 // Document 01's program: "P and W are 2, first position 1."
+#![tactic(auto)]
+
 use program::{Setup, run_files};
 
 fn main() {

@@ -1,5 +1,7 @@
 // The calls from C, as include/uxoladun.h declares them: check one packed transaction, and run one batch from its
 // opening to its last step. A slice is a pointer and a length there.
+#![tactic(auto)]
+
 mod opened;
 mod report;
 mod tables;
@@ -16,7 +18,7 @@ use packed::unpack;
 use terms::Position;
 
 // A batch that was run: the number that refuses its opening, 0 for none, and what there is after the last step.
-#[derive(Drop)]
+#[derive(Clone, Copy)]
 pub struct Ran {
     pub number: u8,
     pub tally: Tally,

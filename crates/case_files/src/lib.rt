@@ -1,5 +1,7 @@
 // What the programs that run stored cases share: a meaning as it stands in a case file (reference/README.md), and the
 // parts of a line.
+#![tactic(auto)]
+
 ghost use Rattle.std.specs.Prelude.{◌+◌, ◌≤◌};
 
 use packed::{Action, ActionRow, Transaction};

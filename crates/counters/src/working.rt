@@ -6,7 +6,7 @@ ghost use Rattle.counters.specs.Working.{place_in, read_place, written};
 ghost use Rattle.counters.specs.LawsActions.{copy_of};
 
 // What a transaction declares.
-#[derive(Drop)]
+#[derive(Clone, Copy)]
 pub struct Sets {
     pub readcount: u8,
     pub writecount: u8,

@@ -1,4 +1,6 @@
 // Runs the stored cases of deciding and prints each decision on a line. The reference makes what it has to print.
+#![tactic(auto)]
+
 use case_files::{print_number, print_text};
 use counters::{Decision, Outcome};
 

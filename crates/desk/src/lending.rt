@@ -16,7 +16,7 @@ use engine::{Answer, Row, State, Worker, lent};
 use versions::Version;
 
 // A tally without the state's transactions and workers.
-#[derive(Drop)]
+#[derive(Clone, Copy)]
 pub struct Sheet {
     pub numbers: Numbers,
     pub offered: u64,

@@ -1,5 +1,7 @@
 // What the program does with the steps that it is offered: each goes to the engine or is refused at once, and is
 // counted.
+#![tactic(auto)]
+
 mod counts;
 pub(crate) mod lending;
 mod offering;
@@ -15,7 +17,7 @@ pub use output::{counts_of, make_for, opening_line, record_at, refusal_line, tra
 pub use text::{counts_line, not_sealed_line, record_line, refused_line, transaction_line};
 
 // "4 bytes a step: kind 1 place, 2 claim, 3 advance, 4 seal; party; 16-bit transaction, zero except for a claim"
-#[derive(Drop)]
+#[derive(Clone, Copy)]
 pub struct Step {
     pub kind: u8,
     pub party: u8,
@@ -23,14 +25,14 @@ pub struct Step {
 }
 
 // A line of the program's output: its first `length` bytes.
-#[derive(Drop)]
+#[derive(Clone, Copy)]
 pub struct Line {
     pub bytes: [u8; 128],
     pub length: usize,
 }
 
 // The engine's state, the three counts of the last line, and whether a seal was accepted.
-#[derive(Drop)]
+#[derive(Clone, Copy)]
 pub struct Tally {
     pub state: State,
     pub offered: u64,

@@ -1,5 +1,7 @@
 // Runs the stored cases of the whole program and prints for each its number and then what the program prints. The
 // reference makes what it has to print; reference/README.md says the form of both.
+#![tactic(auto)]
+
 use case_files::{print_number, print_text};
 use program::{Part, Setup, load, run, whole};
 

@@ -6,7 +6,7 @@ use crate::{Phase, Worker};
 use packed::Transaction;
 
 // "One of: read the next declared read; with none left, decide; carry the next carried write; fill the next write."
-#[derive(Drop)]
+#[derive(Clone, Copy)]
 pub enum Act {
     Read(u8),
     Decide,

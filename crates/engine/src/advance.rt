@@ -20,7 +20,7 @@ use versions::{Fill, Version, fill, walk};
 
 // What an advance aims at: its verdict; and where nothing is refused so far the worker, what it does next, how many
 // writes its transaction has, what it decides, and the look at a record that this takes.
-#[derive(Drop)]
+#[derive(Clone, Copy)]
 pub struct Aim {
     pub verdict: Verdict,
     pub worker: Worker,
@@ -31,7 +31,7 @@ pub struct Aim {
 }
 
 // A look at a record: of which, from which slot, below which bound, and for which position.
-#[derive(Drop)]
+#[derive(Clone, Copy)]
 pub struct Look {
     pub number: usize,
     pub slot: u16,
@@ -40,7 +40,7 @@ pub struct Look {
 }
 
 // What an advance changes, and the transaction that it concerns.
-#[derive(Drop)]
+#[derive(Clone, Copy)]
 pub struct Turn {
     pub transaction: u8,
     pub step: Move,

@@ -20,7 +20,7 @@ pub use sealing::seal;
 use terms::{BatchNumber, Position};
 
 // A state without its transactions and workers.
-#[derive(Drop)]
+#[derive(Clone, Copy)]
 pub struct Numbers {
     pub records: u16,
     pub partitions: u8,
@@ -32,7 +32,7 @@ pub struct Numbers {
 }
 
 // A step's answer and the numbers after it.
-#[derive(Drop)]
+#[derive(Clone, Copy)]
 pub struct Counted {
     pub answer: Answer,
     pub numbers: Numbers,

@@ -1,5 +1,7 @@
 // The engine: its state, and the calls that make a store, open a batch, work it off and seal it. The state goes in by
 // value and each call hands the next one back.
+#![tactic(auto)]
+
 mod acts;
 mod advance;
 mod answers;
@@ -20,7 +22,7 @@ use counters::Outcome;
 use terms::{BatchNumber, Place, Position, Refusal, Verdict};
 
 // "A transaction is Unprocessed, Executing by a named worker, or Complete with an outcome, committed or aborted."
-#[derive(Drop)]
+#[derive(Clone, Copy)]
 pub enum Progress {
     Unprocessed,
     Executing(u8),
@@ -28,14 +30,14 @@ pub enum Progress {
 }
 
 // A transaction of the batch.
-#[derive(Drop)]
+#[derive(Clone, Copy)]
 pub struct Row {
     pub progress: Progress,
 }
 
 // "A worker is idle; or holds a transaction and the values read so far; or, once decided, also outcome, new contents,
 // carry marks and how many carries and fills are done." How far it is, with the counts that it then has.
-#[derive(Drop)]
+#[derive(Clone, Copy)]
 pub enum Phase {
     Idle,
     Reading {
@@ -50,7 +52,7 @@ pub enum Phase {
 }
 
 // A worker; what its phase does not have is zero in the worker that a call makes idle, and is never looked at.
-#[derive(Drop)]
+#[derive(Clone, Copy)]
 pub struct Worker {
     pub phase: Phase,
     pub transaction: u8,
@@ -61,7 +63,7 @@ pub struct Worker {
 
 // All that a store is besides the lent tables: N, P, W, F, n (0 when no batch is open), the batch number, each
 // partition's count of placed transactions, each transaction's state and each worker's work.
-#[derive(Drop)]
+#[derive(Clone, Copy)]
 pub struct State {
     pub records: u16,
     pub partitions: u8,
@@ -75,7 +77,7 @@ pub struct State {
 }
 
 // What a call answers.
-#[derive(Drop)]
+#[derive(Clone, Copy)]
 pub enum Answer {
     Accepted,
     Waits(Position),
@@ -83,14 +85,14 @@ pub enum Answer {
 }
 
 // A step's answer and the state after it.
-#[derive(Drop)]
+#[derive(Clone, Copy)]
 pub struct Stepped {
     pub answer: Answer,
     pub state: State,
 }
 
 // A store that was made, or the all-zero one.
-#[derive(Drop)]
+#[derive(Clone, Copy)]
 pub struct Made {
     pub verdict: Verdict,
     pub state: State,

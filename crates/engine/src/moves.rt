@@ -11,7 +11,7 @@ use terms::{Place, Position, Refusal};
 use versions::Walked;
 
 // What a look at a record shows: contents, a version that is not produced yet, or a chain that no run leaves so.
-#[derive(Drop)]
+#[derive(Clone, Copy)]
 pub enum Seen {
     Contents(u64),
     NotYet(u64),
@@ -20,7 +20,7 @@ pub enum Seen {
 
 // The answer, the worker as it goes on, how the transaction stands where the worker leaves it, the entry to fill, and
 // the results where the transaction is complete.
-#[derive(Drop)]
+#[derive(Clone, Copy)]
 pub struct Move {
     pub answer: Answer,
     pub worker: Worker,

@@ -13,7 +13,7 @@ use terms::{NO_END, Refusal, Verdict};
 use versions::{Version, clear};
 
 // What an opening comes to: its verdict, and where it is accepted the number of transactions.
-#[derive(Drop)]
+#[derive(Clone, Copy)]
 pub struct Opening {
     pub verdict: Verdict,
     pub size: u8,

@@ -17,7 +17,7 @@ use versions::{Link, Version, link};
 
 // What a place step comes to: its verdict; and where it is accepted the transaction with its position, its writes,
 // which of them lie in the partition, and how many transactions the partition has placed then.
-#[derive(Drop)]
+#[derive(Clone, Copy)]
 pub struct Placing {
     pub verdict: Verdict,
     pub transaction: u8,
@@ -28,7 +28,7 @@ pub struct Placing {
 }
 
 // One write to place, if it is one of the partition's.
-#[derive(Drop)]
+#[derive(Clone, Copy)]
 pub struct Write {
     pub here: bool,
     pub number: u16,

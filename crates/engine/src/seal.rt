@@ -10,7 +10,7 @@ use terms::{BatchNumber, Position, Refusal, Verdict};
 use versions::{Version, clear, collect, newest_sound};
 
 // What a seal comes to: its verdict, and where it is accepted the next position and the batch number after it.
-#[derive(Drop)]
+#[derive(Clone, Copy)]
 pub struct Sealing {
     pub verdict: Verdict,
     pub next: u64,

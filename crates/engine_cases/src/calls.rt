@@ -4,7 +4,7 @@ use engine::{Answer, State, Stepped};
 use terms::{Position, Verdict};
 
 // The call's number and its four numbers; the version table's length, and how many of its entries the case has.
-#[derive(Drop)]
+#[derive(Clone, Copy)]
 pub struct Asked {
     pub call: u64,
     pub first: usize,

@@ -1,5 +1,7 @@
 // Runs the stored cases of the engine's calls and prints the answer, the state and the tables after each. The reference
 // makes what it has to print; reference/README.md says the form of both.
+#![tactic(auto)]
+
 mod calls;
 mod print;
 mod read;

@@ -1,6 +1,8 @@
 // Works off a batch as document 01's program does, for any P and W. bench/engine counts its instructions beside those
 // of the same program in C, bench/engine/run.c. setup.bin holds P and W, 2 and 2 without it; a third byte that is not 0
 // leaves out all lines but the counts, so that a seal can be measured without the lines that it makes.
+#![tactic(auto)]
+
 use program::{Setup, close, load, run_files, whole};
 
 fn wide(byte: u8) -> usize {

@@ -1,5 +1,7 @@
 // Every meaning that code holds is one of those that the round trips of packed transactions speak of, and every state
 // one of those that the promise speaks of.
+#![tactic(auto)]
+
 ghost use Rattle.std.specs.Prelude.{◌≡◌, length, get_or};
 ghost use Rattle.packed.specs.Encode.{fields_of};
 ghost use Rattle.packed.specs.Held.{HeldSet, HeldFields, Held};

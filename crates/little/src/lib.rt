@@ -1,4 +1,6 @@
 // Numbers of several bytes, the low byte first.
+#![tactic(auto)]
+
 ghost use Rattle.std.specs.Prelude.{◌≡◌, ◌≤◌, ◌<◌, ◌^◌, length};
 ghost use Rattle.little.specs.Little.{number_in, bytes_of};
 

@@ -3,7 +3,7 @@ ghost use Rattle.std.specs.Prelude.{◌≡◌, ◌+◌, ◌≤◌, length};
 ghost use Rattle.packed.specs.Fields.{word_at, long_at, set_at, fields_at};
 
 // The fields of an action as they stand in its 16 bytes, whatever its kind makes of them.
-#[derive(Drop)]
+#[derive(Clone, Copy)]
 pub struct Fields {
     pub kind: u8,
     pub r: u16,

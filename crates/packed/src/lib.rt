@@ -1,4 +1,6 @@
 // A packed transaction: 88 bytes, what they mean, and the way between the two in both directions.
+#![tactic(auto)]
+
 mod decode;
 mod encode;
 mod fields;
@@ -13,7 +15,7 @@ use terms::Verdict;
 pub use unpacking::{unpack, unpack_at};
 
 // An action, a case for each kind of the table, with the fields that the kind has: records r and s, constant c.
-#[derive(Drop)]
+#[derive(Clone, Copy)]
 pub enum Action {
     Nothing,
     Set { r: u16, c: u64 },
@@ -25,13 +27,13 @@ pub enum Action {
 }
 
 // One of the four places for an action in a transaction.
-#[derive(Drop)]
+#[derive(Clone, Copy)]
 pub struct ActionRow {
     pub action: Action,
 }
 
 // What an entry means. Entries of the sets and of the actions past their counts are zero, or `Nothing`.
-#[derive(Drop)]
+#[derive(Clone, Copy)]
 pub struct Transaction {
     pub readcount: u8,
     pub writecount: u8,
@@ -42,7 +44,7 @@ pub struct Transaction {
 }
 
 // The answer of unpacking; refused, the meaning is the all-zero one.
-#[derive(Drop)]
+#[derive(Clone, Copy)]
 pub struct Unpacked {
     pub verdict: Verdict,
     pub meaning: Transaction,

@@ -9,7 +9,7 @@ use crate::fields;
 use fields::Fields;
 
 // An undeclared record is read; where none is, one is written.
-#[derive(Drop)]
+#[derive(Clone, Copy)]
 pub(crate) struct Undeclared {
     pub read: bool,
     pub write: bool,

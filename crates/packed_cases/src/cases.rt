@@ -1,7 +1,7 @@
 // The layout of a case in the file: see reference/README.md.
 
 // The head of a case: what is asked (1 unpack, 2 pack, 3 an entry of a log), N, the index, the length of what is lent.
-#[derive(Drop)]
+#[derive(Clone, Copy)]
 pub struct Asked {
     pub what: u8,
     pub n: usize,

@@ -1,5 +1,7 @@
 // Runs the stored cases of packed transactions and prints each answer on a line. The reference makes what it has to
 // print.
+#![tactic(auto)]
+
 mod cases;
 mod print;
 

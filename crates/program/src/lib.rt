@@ -1,5 +1,7 @@
 // What document 01's program does with the bytes of records.bin, log.bin and steps.bin: the batch is opened and worked
 // off, and its lines are printed. The bytes may stand in three files or in parts of one.
+#![tactic(auto)]
+
 mod files;
 mod print;
 mod tables;
@@ -13,7 +15,7 @@ use terms::Verdict;
 
 // Bytes of an open file: so many from `start` on. The file is its descriptor, and past all descriptors where there is
 // none.
-#[derive(Drop)]
+#[derive(Clone, Copy)]
 pub struct Part {
     pub file: usize,
     pub start: usize,
@@ -21,7 +23,7 @@ pub struct Part {
 }
 
 // P and W, and whether only the counts are printed.
-#[derive(Drop)]
+#[derive(Clone, Copy)]
 pub struct Setup {
     pub partitions: usize,
     pub workers: usize,

@@ -1,4 +1,6 @@
 // The terms that every crate shares: positions and batch numbers, refusals and their places, two reserved numbers.
+#![tactic(auto)]
+
 mod position;
 mod refusal;
 mod reserved;

@@ -3,7 +3,7 @@ ghost use Rattle.std.specs.Prelude.{◌≡◌};
 ghost use Rattle.terms.specs.Refusals.{number_of, place_of, refused, verdict_number, verdict_place};
 
 // A case for each line of the table, in its order.
-#[derive(Drop)]
+#[derive(Clone, Copy)]
 pub enum Refusal {
     WrongParameter,
     WrongLength,
@@ -23,13 +23,13 @@ pub enum Refusal {
 }
 
 // Where a refusal lies: the index of a transaction in its batch.
-#[derive(Drop)]
+#[derive(Clone, Copy)]
 pub struct Place {
     pub transaction: usize,
 }
 
 // What a call that can only accept or refuse answers.
-#[derive(Drop)]
+#[derive(Clone, Copy)]
 pub enum Verdict {
     Accepted,
     Refused(Refusal, Place),

@@ -1,5 +1,7 @@
 // Unpacks every entry of a file and prints the sum of all that the meanings hold, so that nothing of a meaning can be
 // left out. bench/unpack counts its instructions beside those of the same work in C.
+#![tactic(auto)]
+
 use packed::{Action, ActionRow, Transaction, Unpacked};
 use terms::Verdict;
 

@@ -1,5 +1,3 @@
-pub mod Callee
-pub mod Calls
 pub mod Chain
 pub mod Clear
 pub mod Lists

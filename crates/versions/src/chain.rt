@@ -7,7 +7,7 @@ use crate::Version;
 use crate::table::{entry_at, lesser};
 
 // What a walk comes to: the stored record, "past the last one"; a version; or a slot that no proper chain has.
-#[derive(Drop)]
+#[derive(Clone, Copy)]
 pub enum Walked {
     Stored,
     Found(Version),

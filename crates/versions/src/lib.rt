@@ -1,5 +1,7 @@
 // The version table, "one lent run of version entries", and the few functions that touch it. What can be decided by
 // value stands in functions over single entries; those over the table are thin.
+#![tactic(auto)]
+
 mod chain;
 mod entry;
 mod plan;
@@ -15,7 +17,7 @@ pub use step::{fill, link};
 pub use table::{clear, entry_at, put_at};
 
 // "Each entry has begin, end, previous slot, contents and a produced mark."
-#[derive(Drop)]
+#[derive(Clone, Copy)]
 pub struct Version {
     pub begin: u64,
     pub end: u64,

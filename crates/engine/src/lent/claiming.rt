@@ -12,7 +12,7 @@ use terms::{Place, Refusal};
 
 // What a claim comes to: its answer; and where it is accepted the transaction with how it stands then, and the worker
 // with how it goes on. A refused one has numbers past the last, where nothing changes.
-#[derive(Drop)]
+#[derive(Clone, Copy)]
 pub struct Claiming {
     pub answer: Answer,
     pub transaction: usize,

@@ -1,3 +1,0 @@
-pub mod Steps
-pub mod Lent
-pub mod Lending

@@ -1,4 +1,0 @@
-pub mod Engine
-pub mod Versions
-pub mod Tables
-pub mod Print
