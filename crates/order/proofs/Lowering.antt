@@ -14,9 +14,9 @@ use Rattle.order.specs.Machine.{PlanningOver, NextCarry, claims, reads, read_wai
 use Rattle.order.specs.Machine.{carries, carry_waits, fills, fills_last, Executes, Accepted, places, executes}
 use Rattle.order.specs.TableLaws.{updated_here, updated_elsewhere, marks_le, marks_rise}
 use Rattle.order.specs.Invariant.{ReadingRight, ExecutionRight}
-use Rattle.order.specs.Sums.{sum_below, sum_at}
-use Rattle.order.specs.Remaining.{carries_left, steps_left, places_left, remaining, left_work, left_both, left_laid}
-use Rattle.order.specs.Remaining.{laid_idle}
+use Rattle.order.proofs.Sums.{sum_below, sum_at}
+use Rattle.order.proofs.Remaining.{carries_left, steps_left, places_left, remaining, left_work, left_both, left_laid}
+use Rattle.order.proofs.Remaining.{laid_idle}
 
 module _ {X O : Type 0} (B : Batch X O) where
   -- A placing lowers what is left.

@@ -16,10 +16,10 @@ use Rattle.order.specs.Machine.{AtSeal, State, Executes}
 use Rattle.order.specs.TableLaws.{clash, updated_all}
 use Rattle.order.specs.LastWrite.{last_write, IsLast, last_write_lem, SerialAt, serial}
 use Rattle.order.specs.Invariant.{IsProduced, VersionRight, RowRight, ExecutionRight, Sound}
-use Rattle.order.specs.Linking.{unplanned_planned}
-use Rattle.order.specs.Placing.{place_planned}
-use Rattle.order.specs.Found.{Lacks, walk_to_last, found_right, missing}
-use Rattle.order.specs.Steps.{executes_keeps}
+use Rattle.order.proofs.Linking.{unplanned_planned}
+use Rattle.order.proofs.Placing.{place_planned}
+use Rattle.order.proofs.Found.{Lacks, walk_to_last, found_right, missing}
+use Rattle.order.proofs.Steps.{executes_keeps}
 
 module _ {X O : Type 0} (B : Batch X O) where
   -- Nothing is wrong at opening.
