@@ -9,7 +9,7 @@ use Rattle.order.specs.Machine.{Contents, unproduced, produced, Row, unprocessed
 use Rattle.order.specs.Machine.{held_at, Finds, PlanningOver, IsComplete}
 use Rattle.order.specs.LastWrite.{last_write, WriteOf, write_below, IsLast, last_write_lem, SerialAt, serial}
 use Rattle.order.specs.Invariant.{Planned, VersionRight, RowRight, ExecutionRight}
-use Rattle.order.specs.Walk.{walk_unique, OnlyVersion, walk_ends, walk_finds_only}
+use Rattle.order.proofs.Walk.{walk_unique, OnlyVersion, walk_ends, walk_finds_only}
 
 module _ {X O : Type 0} (B : Batch X O) (p : Plan) where
   -- Transaction i lacks record r: its last write before i, write j of the earlier transaction a, is not produced, and
@@ -55,7 +55,8 @@ module _ {X O : Type 0} (B : Batch X O) (ok : Proper B)
       version a j unproduced g e = cc
       version a j (produced z) g e = cc
 
-      go : (s : Slot) → SerialAt B r i s → IsLast B r i s → held_at B contents r s ≡ produced x → x ≡ records_before B i r
+      go : (s : Slot) → SerialAt B r i s → IsLast B r i s → held_at B contents r s ≡ produced x
+          → x ≡ records_before B i r
       go no_slot g k e = cc
       go (slot a j) g k e =
           version a j (contents a j) (right a j) e ∙ ap (records_before B (suc a)) k.0.same_record ∙ sym g

@@ -12,17 +12,17 @@ use Rattle.order.specs.Tables.{updated, marks_below, updated_entry}
 use Rattle.order.specs.Batch.{Batch, Proper}
 use Rattle.order.specs.Plan.{unplanned, link_write, link_writes, place_next}
 use Rattle.order.specs.Machine.{claim, advance, place, act, Answer, stepped, waits_for, opened, produce, with_work}
-use Rattle.order.specs.Machine.{with_both, reads}
+use Rattle.order.specs.Machine.{with_both}
 use Rattle.order.specs.Store.{Offer, step, seal, Reply, refused, accepted, Store, after, after_all, seal_accepted}
 use Rattle.order.specs.TableLaws.{find_mark}
 use Rattle.order.specs.LastWrite.{slot_among, last_write}
-use Rattle.order.specs.Safety.{is_complete_lem}
-use Rattle.order.specs.Sums.{first_failing}
+use Rattle.order.proofs.Safety.{is_complete_lem}
+use Rattle.order.proofs.Sums.{first_failing}
 use Rattle.order.specs.ListRun.{Verdict, store_from, run_all, Setting, batch_of, ran_of, AsListed, Fitting}
-use Rattle.order.specs.ListLaws.{fitting_proper}
-use Rattle.order.specs.ListTheorem.{safety_listed}
-use Rattle.order.specs.Responses.{planning_over, all_complete, respond}
-use Rattle.order.specs.Instance.{MachineStore, opened_machine, offered, machine, machine_meets, just_opened_lem}
+use Rattle.order.proofs.ListLaws.{fitting_proper}
+use Rattle.order.proofs.ListTheorem.{safety_listed}
+use Rattle.order.proofs.Responses.{planning_over, all_complete, respond}
+use Rattle.order.proofs.Instance.{MachineStore, opened_machine, offered, machine, machine_meets, just_opened_lem}
 
 pub data Outcome : Type 0 where
   committed : Outcome
@@ -127,9 +127,9 @@ order =
 -- All 29 offers are accepted, the last is the seal, and one answer is a wait, for position 1.
 order_runs : (answers start order ≡ replicate 12 (some stepped) ++ some (waits_for 1) ∷ replicate 16 (some stepped))
     × (seal_accepted store start order ≡ true)
-unfolding answers seal_accepted machine opened_machine offered respond planning_over all_complete is_complete_lem first_failing
-    opened unplanned place_next link_writes link_write last_write slot_among updated updated_entry with_work with_both produce
-    marks_below find_mark ℕ_discrete dec_lt dec_le
+unfolding answers seal_accepted machine opened_machine offered respond planning_over all_complete is_complete_lem
+    first_failing opened unplanned place_next link_writes link_write last_write slot_among updated updated_entry with_work
+    with_both produce marks_below find_mark ℕ_discrete dec_lt dec_le
 order_runs = (refl, refl)
 
 -- So the store holds what the run gives: by the theorem.
