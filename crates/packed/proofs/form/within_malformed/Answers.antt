@@ -1,4 +1,4 @@
-use Rattle.std.proofs.Common.{◌%◌, sym, arith}
+use Rattle.std.proofs.Common.{◌%◌, sym}
 use Rattle.packed.specs.LawsActions.{within_malformed}
 use Rattle.packed.specs.LawsKinds.{Other, other_kind}
 use Rattle.packed.proofs.form.within_malformed.Goals as goal
@@ -31,5 +31,5 @@ pub returns-in_default : goal.returns-in_default
 unfolding within_malformed
 returns-in_default c =
     let kind = c.args.head % 65536 in
-    let other : Other kind = ((((((tt, λ h. omega arith), λ h. omega arith), λ h. omega arith), λ h. omega arith), λ h. omega arith), λ h. omega arith) in
+    let other : Other kind = assumption in
     sym (other_kind _ _ _ _ _ _ _ kind other)

@@ -1,4 +1,3 @@
-use Rattle.std.proofs.Common.{arith}
 use Rattle.packed.specs.Kinds.{uses_of}
 use Rattle.packed.specs.LawsKinds.{Other, uses_other}
 use Rattle.packed.proofs.records.reads_unlisted.Goals as goal
@@ -29,5 +28,5 @@ returns-in-6 c = rw (c.is_unlisted-in-6.ensures, c.in-6.is)
 
 pub returns-in_default : goal.returns-in_default
 returns-in_default c =
-    let other : Other c.args.x.kind = ((((((tt, λ h. omega arith), λ h. omega arith), λ h. omega arith), λ h. omega arith), λ h. omega arith), λ h. omega arith) in
+    let other : Other c.args.x.kind = assumption in
     rw (uses_other c.args.x other)

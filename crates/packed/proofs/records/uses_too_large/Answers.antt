@@ -1,4 +1,3 @@
-use Rattle.std.proofs.Common.{arith}
 use Rattle.packed.specs.Kinds.{uses_of}
 use Rattle.packed.specs.LawsKinds.{Other, uses_other}
 use Rattle.packed.specs.LawsRecords.{or_same, or_false}
@@ -30,5 +29,5 @@ returns-in-6 c = rw (c.too_large-in-6.ensures, c.in-6.is) (or_false _)
 
 pub returns-in_default : goal.returns-in_default
 returns-in_default c =
-    let other : Other c.args.x.kind = ((((((tt, λ h. omega arith), λ h. omega arith), λ h. omega arith), λ h. omega arith), λ h. omega arith), λ h. omega arith) in
+    let other : Other c.args.x.kind = assumption in
     rw (uses_other c.args.x other)
