@@ -13,7 +13,7 @@ use Rattle.versions.specs.Step.{preceding_of, end_at, link_of}
 use Rattle.versions.specs.Table.{entry_of, put_of}
 use Rattle.versions.specs.declared.Version.{Version}
 use Rattle.versions.specs.declared.plan.Link.{Link}
-use Rattle.engine.specs.Contracts.{PlaceMet, AdvanceMet, SealMet}
+use Rattle.engine.specs.Met.{PlaceMet, AdvanceMet, SealMet}
 use Rattle.engine.specs.Claim.{claim_of}
 use Rattle.engine.specs.Place.{Plans, place_verdict, placed_when, place_below, place_write, place_of, written_in, slot_of}
 use Rattle.engine.specs.Place.{position_of, write_of, meaning_at}
