@@ -8,7 +8,7 @@ use Rattle.order.specs.Batch.{Batch, Proper}
 use Rattle.order.specs.Plan.{Plan, with_placed, link_write, link_writes, place_next}
 use Rattle.order.specs.TableLaws.{choose_all, updated_here, updated_elsewhere, updated_all}
 use Rattle.order.specs.Invariant.{Entry, Linked, Planned}
-use Rattle.order.specs.Linking.{linked_spared, link_other, link_own}
+use Rattle.order.proofs.Linking.{linked_spared, link_other, link_own}
 
 module _ {X O : Type 0} (B : Batch X O) where
   -- Record r is that of one of the first k writes of transaction i, and partition q has it in its care.

@@ -12,17 +12,17 @@ use Rattle.order.specs.Tables.{updated, marks_below, updated_entry}
 use Rattle.order.specs.Batch.{Batch, Proper}
 use Rattle.order.specs.Plan.{unplanned, link_write, link_writes, place_next}
 use Rattle.order.specs.Machine.{claim, advance, place, act, Answer, stepped, waits_for, opened, produce, with_work}
-use Rattle.order.specs.Machine.{with_both, reads}
+use Rattle.order.specs.Machine.{with_both}
 use Rattle.order.specs.Store.{Offer, step, seal, Reply, refused, accepted, Store, after, after_all, seal_accepted}
 use Rattle.order.specs.TableLaws.{find_mark}
 use Rattle.order.specs.LastWrite.{slot_among, last_write}
-use Rattle.order.specs.Safety.{is_complete_lem}
-use Rattle.order.specs.Sums.{first_failing}
+use Rattle.order.proofs.Safety.{is_complete_lem}
+use Rattle.order.proofs.Sums.{first_failing}
 use Rattle.order.specs.ListRun.{Verdict, store_from, run_all, Setting, batch_of, ran_of, AsListed, Fitting}
-use Rattle.order.specs.ListLaws.{fitting_proper}
-use Rattle.order.specs.ListTheorem.{safety_listed}
-use Rattle.order.specs.Responses.{planning_over, all_complete, respond}
-use Rattle.order.specs.Instance.{MachineStore, opened_machine, offered, machine, machine_meets, just_opened_lem}
+use Rattle.order.proofs.ListLaws.{fitting_proper}
+use Rattle.order.proofs.ListTheorem.{safety_listed}
+use Rattle.order.proofs.Responses.{planning_over, all_complete, respond}
+use Rattle.order.proofs.Instance.{MachineStore, opened_machine, offered, machine, machine_meets, just_opened_lem}
 
 pub data Outcome : Type 0 where
   committed : Outcome

@@ -5,7 +5,7 @@ use Rattle.std.proofs.Common.{sym, arith}
 use mathlib.Core.List.{List, []}
 use Rattle.order.specs.Tables.{first_values}
 use Rattle.order.specs.Batch.{Batch, Proper}
-use Rattle.order.specs.OneByOne.{records_before, values_read}
+use Rattle.order.specs.OneByOne.{records_before}
 use Rattle.order.specs.Machine.{Contents, unproduced, produced, Row, unprocessed, executing, complete, State}
 use Rattle.order.specs.Machine.{claim, advance, Step, place, act, Answer, stepped, opened, held_at, Accepted}
 use Rattle.order.specs.Machine.{IsComplete, AllComplete, AtSeal}
@@ -14,8 +14,8 @@ use Rattle.order.specs.TableLaws.{clash, length_first, get_d_first}
 use Rattle.order.specs.LastWrite.{last_write}
 use Rattle.order.specs.Invariant.{Sound}
 use Rattle.order.specs.Interface.{IsAccepted, Meets}
-use Rattle.order.specs.Safety.{opened_sound, step_keeps, complete_as_run}
-use Rattle.order.specs.Responses.{Allowed, Response, makes, cannot, all_complete, respond}
+use Rattle.order.proofs.Safety.{opened_sound, step_keeps, complete_as_run}
+use Rattle.order.proofs.Responses.{Allowed, Response, makes, cannot, all_complete, respond}
 
 module _ {X O : Type 0} (B : Batch X O) where
   -- The machine in a sound state, open or sealed.

@@ -11,12 +11,12 @@ use Rattle.order.specs.Machine.{unproduced, Row, unprocessed, executing, complet
 use Rattle.order.specs.Machine.{decided, Execution, State, Act, claim, advance, place, act, Answer, held_by}
 use Rattle.order.specs.Machine.{decided_on, after_carry, after_fill, produce, with_work, with_both, dropped, Finds}
 use Rattle.order.specs.Machine.{PlanningOver, NextCarry, claims, reads, read_waits, decides, decides_last}
-use Rattle.order.specs.Machine.{carries, carry_waits, fills, fills_last, Accepted, places, executes}
+use Rattle.order.specs.Machine.{carries, carry_waits, fills, fills_last, Executes, Accepted, places, executes}
 use Rattle.order.specs.TableLaws.{updated_here, updated_elsewhere, marks_le, marks_rise}
 use Rattle.order.specs.Invariant.{ReadingRight, ExecutionRight}
-use Rattle.order.specs.Sums.{sum_below, sum_at}
-use Rattle.order.specs.Remaining.{carries_left, steps_left, places_left, remaining, left_work, left_both, left_laid}
-use Rattle.order.specs.Remaining.{laid_idle}
+use Rattle.order.proofs.Sums.{sum_below, sum_at}
+use Rattle.order.proofs.Remaining.{carries_left, steps_left, places_left, remaining, left_work, left_both, left_laid}
+use Rattle.order.proofs.Remaining.{laid_idle}
 
 module _ {X O : Type 0} (B : Batch X O) where
   -- A placing lowers what is left.
@@ -38,8 +38,12 @@ module _ {X O : Type 0} (B : Batch X O) where
 
   pub placing : {s u : State X O} {q : ℕ} {answer : Answer} → s.plan.placed q < B.size
       → Accepted B s (place q) answer u → Placing s u
-  placing {s} h (places {q} hq l) =
-      record { lowers = omega (arith, place_lowers s.plan q hq h); same_execution = refl }
+  placing {s} {u} {q} {answer} h a = one q answer u h a
+    where
+      one : (q : ℕ) (answer : Answer) (u : State X O) → s.plan.placed q < B.size → Accepted B s (place q) answer u
+          → Placing s u
+      one q answer u h (places hq l) =
+          record { lowers = omega (arith, place_lowers s.plan q hq h); same_execution = refl }
 
   -- What a claim of transaction i by worker w comes to.
   pub record Claiming (s u : State X O) (w i : ℕ) : Type 0 where
@@ -68,14 +72,18 @@ module _ {X O : Type 0} (B : Batch X O) where
     pub claiming : {u : State X O} {w i : ℕ} {answer : Answer} → Accepted B s (act (claim w i)) answer u
         → Claiming s u w i
     unfolding with_both
-    claiming (executes over (claims {w} {i} hw hi idle_now open_now)) =
-        let t : steps_left B (with_both e w (reading i 0 []) i (executing w)) + 14 ≡ steps_left B e + 13 =
-        rw (open_now, updated_here) at (left_both B e w i (reading i 0 []) (executing w) hi (λ a y. (cc)) inv) in
-        record {
-          lowers = omega arith;
-          runs = updated_here e.row i (executing w);
-          others = λ a n. updated_elsewhere e.row i (executing w) a n;
-        }
+    claiming {w = w} {i = i} {answer = answer} (executes {e = f} over x) = one w i answer f over x
+      where
+        one : (w i : ℕ) (answer : Answer) (f : Execution X O) → PlanningOver B s.plan
+            → Executes B s.plan e (claim w i) answer f → Claiming s (record { plan = s.plan; execution = f }) w i
+        one w i answer f over (claims hw hi idle_now open_now) =
+            let t : steps_left B (with_both e w (reading i 0 []) i (executing w)) + 14 ≡ steps_left B e + 13 =
+            rw (open_now, updated_here) at (left_both B e w i (reading i 0 []) (executing w) hi (λ a y. (cc)) inv) in
+            record {
+              lowers = omega arith;
+              runs = updated_here e.row i (executing w);
+              others = λ a n. updated_elsewhere e.row i (executing w) a n;
+            }
 
     few_done : Proper B → (w i k : ℕ) (values : List X) → e.work w ≡ reading i k values → k ≤ 4
     few_done ok w i k values busy =

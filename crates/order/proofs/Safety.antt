@@ -9,17 +9,17 @@ use Rattle.std.proofs.Math.Decide.{dec_lt}
 use Rattle.order.specs.Batch.{Batch, Proper}
 use Rattle.order.specs.OneByOne.{records_before, values_read, decision_of, leaves}
 use Rattle.order.specs.Plan.{Slot, no_slot, slot, position, place_next, Walk}
-use Rattle.order.specs.Machine.{Contents, unproduced, produced, Row, unprocessed, executing, complete, State}
+use Rattle.order.specs.Machine.{Contents, unproduced, produced, Row, unprocessed, executing, complete, Execution}
 use Rattle.order.specs.Machine.{advance, Step, act, Answer, waits_for, opened, held_by, held_at, Finds, PlanningOver}
 use Rattle.order.specs.Machine.{read_waits, carry_waits, Accepted, places, executes, IsComplete, AllComplete}
-use Rattle.order.specs.Machine.{AtSeal}
+use Rattle.order.specs.Machine.{AtSeal, State, Executes}
 use Rattle.order.specs.TableLaws.{clash, updated_all}
 use Rattle.order.specs.LastWrite.{last_write, IsLast, last_write_lem, SerialAt, serial}
 use Rattle.order.specs.Invariant.{IsProduced, VersionRight, RowRight, ExecutionRight, Sound}
-use Rattle.order.specs.Linking.{unplanned_planned}
-use Rattle.order.specs.Placing.{place_planned}
-use Rattle.order.specs.Found.{Lacks, walk_to_last, found_right, missing}
-use Rattle.order.specs.Steps.{executes_keeps}
+use Rattle.order.proofs.Linking.{unplanned_planned}
+use Rattle.order.proofs.Placing.{place_planned}
+use Rattle.order.proofs.Found.{Lacks, walk_to_last, found_right, missing}
+use Rattle.order.proofs.Steps.{executes_keeps}
 
 module _ {X O : Type 0} (B : Batch X O) where
   -- Nothing is wrong at opening.
@@ -118,10 +118,14 @@ module _ {X O : Type 0} (B : Batch X O) where
 
     pub wait_names : {s u : State X O} {w t : ℕ} → Sound B s → Accepted B s (act (advance w)) (waits_for t) u
         → WaitFor s w t
-    wait_names {s} sound (executes over (read_waits {w} {i} {k} {a = a} {j} hw busy left f)) =
-        waiting s sound over w i (B.read_record i k) a j (ap held_by busy) f
-    wait_names {s} sound (executes over (carry_waits {w} {i} {j = k} {a} {b} hw busy next f)) =
-        waiting s sound over w i (B.write_record i k) a b (ap held_by busy) f
+    wait_names {s} {w = w} {t = t} sound (executes {e = e} over x) = named w t e x
+      where
+        named : (w t : ℕ) (e : Execution X O) → Executes B s.plan s.execution (advance w) (waits_for t) e
+            → WaitFor s w t
+        named w t e (read_waits {i = i} {k = k} {a = a} {j = j} hw busy left f) =
+            waiting s sound over w i (B.read_record i k) a j (ap held_by busy) f
+        named w t e (carry_waits {i = i} {j = k} {a = a} {b = b} hw busy next f) =
+            waiting s sound over w i (B.write_record i k) a b (ap held_by busy) f
 
     -- Nothing is Complete before planning is over.
     pub complete_planned : (s : State X O) → Sound B s → AllComplete B s → PlanningOver B s.plan

@@ -11,7 +11,7 @@ use Rattle.order.specs.Machine.{Row, unprocessed, executing, complete, Decided, 
 use Rattle.order.specs.Machine.{Execution, State, held_by, with_work, with_both}
 use Rattle.order.specs.TableLaws.{updated_here, updated_elsewhere, marks_le}
 use Rattle.order.specs.Invariant.{ExecutionRight}
-use Rattle.order.specs.Sums.{sum_below, sum_at, sum_le, sum_lt}
+use Rattle.order.proofs.Sums.{sum_below, sum_at, sum_le, sum_lt}
 
 module _ {X O : Type 0} (B : Batch X O) where
   -- The carries still to be done.

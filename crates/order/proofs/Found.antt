@@ -9,7 +9,7 @@ use Rattle.order.specs.Machine.{Contents, unproduced, produced, Row, unprocessed
 use Rattle.order.specs.Machine.{held_at, Finds, PlanningOver, IsComplete}
 use Rattle.order.specs.LastWrite.{last_write, WriteOf, write_below, IsLast, last_write_lem, SerialAt, serial}
 use Rattle.order.specs.Invariant.{Planned, VersionRight, RowRight, ExecutionRight}
-use Rattle.order.specs.Walk.{walk_unique, OnlyVersion, walk_ends, walk_finds_only}
+use Rattle.order.proofs.Walk.{walk_unique, OnlyVersion, walk_ends, walk_finds_only}
 
 module _ {X O : Type 0} (B : Batch X O) (p : Plan) where
   -- Transaction i lacks record r: its last write before i, write j of the earlier transaction a, is not produced, and

@@ -6,9 +6,9 @@ use Rattle.std.specs.Prelude.{◌≡◌, true, false, List, length}
 use Rattle.order.specs.Machine.{opened}
 use Rattle.order.specs.Store.{Offer, Store, after_all, seal_accepted, CanBeSealed, step_bound}
 use Rattle.order.specs.Interface.{Meets}
-use Rattle.order.specs.Theorem.{safety, progress}
+use Rattle.order.proofs.Theorem.{safety, progress}
 use Rattle.order.specs.ListRun.{Setting, batch_of, AsListed, Fitting}
-use Rattle.order.specs.ListLaws.{fitting_proper, fitting_inside, as_listed}
+use Rattle.order.proofs.ListLaws.{fitting_proper, fitting_inside, as_listed}
 
 module _ {X O C : Type 0} (s : Setting X O) (fitting : Fitting s) (S : Store X O C) (meets : Meets (batch_of s) S)
     (same_count : S.record_count ≡ length s.records) (c : C) (just_opened_lem : meets.Open c opened)

@@ -16,9 +16,9 @@ use Rattle.order.specs.Machine.{fills_last, abandons, Accepted, places, executes
 use Rattle.order.specs.TableLaws.{clash, Mark, find_mark}
 use Rattle.order.specs.LastWrite.{last_write}
 use Rattle.order.specs.Invariant.{DecidedRight, Sound}
-use Rattle.order.specs.Found.{walk_to_last}
-use Rattle.order.specs.Safety.{is_complete_lem}
-use Rattle.order.specs.Sums.{FirstFailing, all_pass, fails_at, first_failing}
+use Rattle.order.proofs.Found.{walk_to_last}
+use Rattle.order.proofs.Safety.{is_complete_lem}
+use Rattle.order.proofs.Sums.{FirstFailing, all_pass, fails_at, first_failing}
 
 module _ {X O : Type 0} (B : Batch X O) where
   -- An accepted step, with its answer and the state that it leads to.

@@ -11,13 +11,13 @@ use Rattle.order.specs.Machine.{State, claim, advance, place, act, held_by, Plan
 use Rattle.order.specs.Store.{Store, CanBeSealed, step_bound}
 use Rattle.order.specs.Invariant.{ExecutionRight, Sound}
 use Rattle.order.specs.Interface.{Meets}
-use Rattle.order.specs.Found.{Lacks, missing}
-use Rattle.order.specs.Safety.{is_complete_lem}
-use Rattle.order.specs.Sums.{FirstFailing, all_pass, fails_at, first_failing}
-use Rattle.order.specs.Remaining.{remaining, places_at_most, left_at_most, left_if_busy}
-use Rattle.order.specs.Lowering.{Placing, placing, Claiming, Advanced, went_on, ended, waited, still_over}
-use Rattle.order.specs.Lowering.{claiming, advancing}
-use Rattle.order.specs.Reaching.{Standing, Reaches, stay, and_then, Taken, taking, step_on, seal_it}
+use Rattle.order.proofs.Found.{Lacks, missing}
+use Rattle.order.proofs.Safety.{is_complete_lem}
+use Rattle.order.proofs.Sums.{FirstFailing, all_pass, fails_at, first_failing}
+use Rattle.order.proofs.Remaining.{remaining, places_at_most, left_at_most, left_if_busy}
+use Rattle.order.proofs.Lowering.{Placing, placing, Claiming, Advanced, went_on, ended, waited, still_over}
+use Rattle.order.proofs.Lowering.{claiming, advancing}
+use Rattle.order.proofs.Reaching.{Standing, Reaches, stay, and_then, Taken, taking, step_on, seal_it}
 
 module _ {X O : Type 0} (B : Batch X O) where
   -- Transaction m is Executing by worker v, and those before it are Complete.

@@ -7,8 +7,8 @@ use Rattle.order.specs.Store.{Offer, step, accepted, Store, NotAbandon, AllAccep
 use Rattle.order.specs.Store.{CanBeSealed}
 use Rattle.order.specs.Invariant.{Sound}
 use Rattle.order.specs.Interface.{IsAccepted, Meets}
-use Rattle.order.specs.Safety.{step_keeps}
-use Rattle.order.specs.Remaining.{remaining}
+use Rattle.order.proofs.Safety.{step_keeps}
+use Rattle.order.proofs.Remaining.{remaining}
 
 module _ {X O C : Type 0} {S : Store X O C} where
   joined : {c d z : C} {os ps : List Offer} → AllAccepted S c os d → AllAccepted S d ps z → AllAccepted S c (os ++ ps) z

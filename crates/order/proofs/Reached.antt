@@ -13,7 +13,7 @@ use Rattle.order.specs.Store.{seal_accepted, AllAccepted, no_offer, then_offer, 
 use Rattle.order.specs.TableLaws.{first_is}
 use Rattle.order.specs.Invariant.{Sound}
 use Rattle.order.specs.Interface.{Meets}
-use Rattle.order.specs.Safety.{AsRun, step_keeps, produced_found, complete_planned, complete_as_run}
+use Rattle.order.proofs.Safety.{AsRun, step_keeps, produced_found, complete_planned, complete_as_run}
 
 -- A list that is accepted throughout leads where it says, and if it ends in a seal, a seal was accepted.
 module _ {X O C : Type 0} {S : Store X O C} where

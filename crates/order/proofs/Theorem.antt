@@ -15,9 +15,9 @@ use Rattle.order.specs.Store.{Offer, step, refused, accepted, Store, after_all, 
 use Rattle.order.specs.Store.{CanBeSealed, step_bound}
 use Rattle.order.specs.Invariant.{Sound}
 use Rattle.order.specs.Interface.{Meets}
-use Rattle.order.specs.Safety.{opened_sound, WaitFor, wait_names}
-use Rattle.order.specs.Progress.{can_be_sealed}
-use Rattle.order.specs.Reached.{Fate, still_open, was_sealed, fate, sealed_as_run, sealing_as_run}
+use Rattle.order.proofs.Safety.{opened_sound, WaitFor, wait_names}
+use Rattle.order.proofs.Progress.{can_be_sealed}
+use Rattle.order.proofs.Reached.{Fate, still_open, was_sealed, fate, sealed_as_run, sealing_as_run}
 
 module _ {X O C : Type 0} (B : Batch X O) (proper : Proper B) (S : Store X O C) (meets : Meets B S)
     (c : C) (just_opened_lem : meets.Open c opened) (offers : List Offer) where

@@ -18,8 +18,8 @@ use Rattle.order.specs.Machine.{carry_waits, fills, fills_last, abandons}
 use Rattle.order.specs.TableLaws.{clash, updated_here, updated_elsewhere, entry_here, marks_rise, marks_apart}
 use Rattle.order.specs.Writes.{written}
 use Rattle.order.specs.Invariant.{IsProduced, Planned, RowRight, ReadingRight, DecidedRight, ExecutionRight}
-use Rattle.order.specs.Changes.{produced_grows, produce_keeps, work_keeps, both_keeps}
-use Rattle.order.specs.Found.{found_right}
+use Rattle.order.proofs.Changes.{produced_grows, produce_keeps, work_keeps, both_keeps}
+use Rattle.order.proofs.Found.{found_right}
 
 module _ {X O : Type 0} (B : Batch X O) where
   -- Worker w lays transaction i down: dropped or Complete.
