@@ -29,7 +29,7 @@ use Rattle.engine.specs.Workers.{idle_worker}
 use Rattle.engine.specs.declared.Phase.TheVariants.{Idle}
 use Rattle.engine.specs.declared.Progress.TheVariants.{Unprocessed}
 use Rattle.engine.specs.declared.State.{State}
-use Rattle.order.specs.ListLaws.{fitting_proper}
+use Rattle.order.proofs.ListLaws.{fitting_proper}
 use Rattle.order.specs.ListRun as listed
 use Rattle.order.specs.Machine as machine
 use Rattle.order.specs.Plan as plan

@@ -20,12 +20,12 @@ use Rattle.engine.specs.declared.State.{State}
 use Rattle.order.specs.Batch as order
 use Rattle.order.specs.Interface as interface
 use Rattle.order.specs.Invariant as invariant
-use Rattle.order.specs.ListLaws.{fitting_inside, as_listed}
+use Rattle.order.proofs.ListLaws.{fitting_inside, as_listed}
 use Rattle.order.specs.ListRun as listed
 use Rattle.order.specs.Machine as machine
-use Rattle.order.specs.Progress.{can_be_sealed}
-use Rattle.order.specs.Reached as order_reached
-use Rattle.order.specs.Safety.{opened_sound}
+use Rattle.order.proofs.Progress.{can_be_sealed}
+use Rattle.order.proofs.Reached as order_reached
+use Rattle.order.proofs.Safety.{opened_sound}
 use Rattle.order.specs.Store as store
 use Rattle.order.specs.TableLaws.{clash}
 use Rattle.ordered.specs.Answering.{waits_for_earlier, finds_only}
