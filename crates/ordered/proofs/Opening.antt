@@ -39,7 +39,7 @@ use Rattle.ordered.specs.Describing.{Describes}
 use Rattle.ordered.specs.Promise.{meanings_from}
 use Rattle.ordered.specs.Relation.{Stands}
 use Rattle.engine.specs.Running.{Engine}
-use Rattle.ordered.specs.Meanings.{meanings_length, turn_accepted, accepted_declared, all_declared, meaning_at_lem}
+use Rattle.ordered.proofs.Meanings.{meanings_length, turn_accepted, accepted_declared, all_declared, meaning_at_lem}
 
 -- a table of equal entries, read with the same default
 get_d_all : {A : Type 0} (count k : ℕ) (x : A) → get_or (replicate count x) k x ≡ x

@@ -34,14 +34,14 @@ use Rattle.ordered.specs.Closed.{all_refused}
 use Rattle.ordered.specs.Counters.{ruled, joined}
 use Rattle.ordered.specs.Counters as counters
 use Rattle.ordered.specs.Describing.{Describes}
-use Rattle.ordered.specs.Ending.{outcomes_hold, results_hold, next_holds, batch_holds}
+use Rattle.ordered.proofs.Ending.{outcomes_hold, results_hold, next_holds, batch_holds}
 use Rattle.ordered.specs.Keeping.{refused_keeps, to_store, from_store, reply_same, after_same, sealed_same}
 use Rattle.ordered.specs.Keeping.{all_same}
 use Rattle.ordered.specs.Lending.{no_seal}
-use Rattle.ordered.specs.Meanings.{meanings_length}
+use Rattle.ordered.proofs.Meanings.{meanings_length}
 use Rattle.ordered.specs.Meeting.{engine_store, WasSealed, engine_meets}
-use Rattle.ordered.specs.Opening.{setting_of, declared_log, fitting, describes, just_opened}
-use Rattle.ordered.specs.Opening.{just_stands}
+use Rattle.ordered.proofs.Opening.{setting_of, declared_log, fitting, describes, just_opened}
+use Rattle.ordered.proofs.Opening.{just_stands}
 use Rattle.ordered.specs.Promise.{meanings_from, ran_one_by_one, complete_row, results_for, AsOneByOne, step_bound}
 use Rattle.ordered.specs.Promise.{CanBeSealed}
 use Rattle.ordered.specs.Questions.{WaitsForEarlier, walk_for, FindsOnly, OfTheMoment}
