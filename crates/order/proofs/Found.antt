@@ -55,7 +55,8 @@ module _ {X O : Type 0} (B : Batch X O) (ok : Proper B)
       version a j unproduced g e = cc
       version a j (produced z) g e = cc
 
-      go : (s : Slot) → SerialAt B r i s → IsLast B r i s → held_at B contents r s ≡ produced x → x ≡ records_before B i r
+      go : (s : Slot) → SerialAt B r i s → IsLast B r i s → held_at B contents r s ≡ produced x
+          → x ≡ records_before B i r
       go no_slot g k e = cc
       go (slot a j) g k e =
           version a j (contents a j) (right a j) e ∙ ap (records_before B (suc a)) k.0.same_record ∙ sym g

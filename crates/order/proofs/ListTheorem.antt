@@ -20,5 +20,6 @@ module _ {X O C : Type 0} (s : Setting X O) (fitting : Fitting s) (S : Store X O
       (safety (batch_of s) (fitting_proper s fitting) S meets c just_opened_lem offers h)
 
   -- While none was, n·P + 14·n + 10 offers suffice.
-  pub progress_listed : seal_accepted S c offers ≡ false → CanBeSealed S (step_bound (batch_of s)) (after_all S c offers)
+  pub progress_listed : seal_accepted S c offers ≡ false
+      → CanBeSealed S (step_bound (batch_of s)) (after_all S c offers)
   progress_listed h = progress (batch_of s) (fitting_proper s fitting) S meets c just_opened_lem offers h
