@@ -12,7 +12,7 @@ use Rattle.terms.specs.Reserved.{no_slot, no_end}
 use Rattle.terms.specs.declared.refusal.Verdict.TheVariants.{Accepted}
 use Rattle.packed.specs.Decode.{nothing}
 use Rattle.packed.specs.LawsForm.{not_left, not_right}
-use Rattle.packed.specs.Unpacking.{entry_of, unpack_at_of}
+use Rattle.packed.specs.Unpacking.{unpack_at_of}
 use Rattle.versions.specs.Entry.{empty_entry}
 use Rattle.versions.specs.Table as versions
 use Rattle.versions.specs.declared.Version.{Version}
