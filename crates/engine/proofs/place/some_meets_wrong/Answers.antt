@@ -1,0 +1,7 @@
+use Rattle.std.proofs.Common.{refl}
+use Rattle.engine.specs.Counting.{some_below}
+use Rattle.engine.proofs.place.some_meets_wrong.Goals as goal
+
+pub returns : goal.returns
+unfolding some_below
+returns c = ?
