@@ -1,4 +1,3 @@
-use Rattle.std.proofs.Common.{◌∙◌, ap}
 use Rattle.engine.specs.LawsOpen.{open_stepped, open_newest, open_versions, open_results}
 use Rattle.engine.proofs.State.open.Goals as goal
 
