@@ -1,0 +1,24 @@
+use Rattle.std.proofs.Common.{◌∙◌, ◌≡◌, ap, ℕ, List, length}
+use Rattle.versions.specs.Step.{link_of}
+use Rattle.versions.specs.declared.Version.{Version}
+use Rattle.engine.specs.LawsPlace.{write_at, link_behind, make_newest, write_on, place_stepped, place_newest, place_versions}
+use Rattle.engine.specs.Place.{Plans}
+use Rattle.engine.specs.declared.place.Placing.{Placing}
+use Rattle.engine.specs.declared.place.Write.{Write}
+use Rattle.engine.proofs.State.place.Goals as goal
+
+abbrev both : List ℕ → List Version → Plans
+both newest versions = record { newest = newest; versions = versions }
+
+-- the tables after one more write
+next : (newest newest' : List ℕ) (versions versions' : List Version) (plans : Plans) (write : Write)
+    (plan : Placing) (j : ℕ)
+    → both newest versions ≡ plans → write ≡ write_at plan j
+    → (newest' ≡ make_newest newest write) × (versions' ≡ link_of versions (link_behind newest (length versions) write))
+    → both newest' versions' ≡ write_on plans (write_at plan j)
+next newest newest' versions versions' plans write plan j so_far same told =
+    rw (told.0, told.1)
+    (ap (write_on (both newest versions)) same ∙ ap (λ (t : Plans). write_on t (write_at plan j)) so_far)
+
+pub returns : goal.returns
+returns c = ?
