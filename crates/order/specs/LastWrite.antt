@@ -127,7 +127,8 @@ module _ {X O : Type 0} (B : Batch X O) where
         (record { earlier = omega arith; declared = h; same_record = refl }, λ b u v. absurd (omega arith))
 
     pub last_after_spare : (r i : ℕ) → Spares B i r → last_write r (suc i) ≡ last_write r i
-    last_after_spare r i h = last_is r (suc i) (last_write r i) (last_spared r i (last_write r i) (last_write_lem r i) h)
+    last_after_spare r i h =
+        last_is r (suc i) (last_write r i) (last_spared r i (last_write r i) (last_write_lem r i) h)
 
     -- What is known of the last write, once it is known to be some slot.
     pub last_known : (r c i j : ℕ) → last_write r c ≡ slot i j → WriteOf r c i j × NoWrite r (suc i) c

@@ -1,6 +1,7 @@
 -- The one-by-one run over lists: a list of transactions, with lists of reads and writes, on a list of records.
 -- Definitions only.
-use Rattle.std.specs.Prelude.{◌≡◌, Bool, false, cond, List, [], ◌∷◌, map, ℕ, suc, ◌+◌, ◌≤◌, ◌<◌, length, get_or, take, set}
+use Rattle.std.specs.Prelude.{◌≡◌, Bool, false, cond, ℕ, suc, ◌+◌, ◌≤◌, ◌<◌}
+use Rattle.std.specs.Prelude.{List, [], ◌∷◌, map, length, get_or, take, set}
 use Rattle.order.specs.Batch.{Decision, Batch}
 use Rattle.order.specs.Store.{Store}
 

@@ -19,7 +19,7 @@ pub fn pack(meaning: Transaction, n: usize, buffer: &mut [u8]) -> Verdict
     let verdict = unpacking::entry_verdict(&b, n, 0);
     match verdict {
         Verdict::Accepted => {
-            bytes::copy(&b, buffer);
+            buffer.copy_from_slice(&b);
             verdict
         }
         Verdict::Refused(_, _) => verdict,

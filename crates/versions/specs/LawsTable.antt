@@ -4,7 +4,7 @@ use Rattle.std.specs.Prelude.{Bool, true, false, cond, ◌&&◌, not, List, [], 
 use Rattle.std.proofs.Common.{sym, ap, ◌∙◌, subst, not-suc-le-zero, le_of_suc-le-suc, le_refl, lt_irrefl, lt_of_lt_of_le, ltb→lt, length-set}
 use Rattle.terms.specs.Reserved.{no_slot}
 use Rattle.versions.specs.Entry.{empty_entry, linked_of, ended_of, filled_of}
-use Rattle.versions.specs.Step.{preceding_of, end_at, link_at, link_of, fill_of}
+use Rattle.versions.specs.Step.{preceding_of, end_at, link_of, fill_of}
 use Rattle.versions.specs.Table.{entry_of, put_of, clear_of}
 use Rattle.versions.specs.declared.Version.{Version}
 use Rattle.versions.specs.declared.plan.Fill.{Fill}

@@ -1,5 +1,5 @@
 -- What the seal does with the newest versions.
-use Rattle.std.specs.Prelude.{ℕ, zero, suc, Bool, true, false, ◌&&◌, ◌||◌, not, cond, List, ltb, eqb, length, get_or, set}
+use Rattle.std.specs.Prelude.{ℕ, zero, suc, Bool, true, ◌&&◌, ◌||◌, not, cond, List, ltb, eqb, length, get_or, set}
 use Rattle.terms.specs.Reserved.{no_slot}
 use Rattle.versions.specs.Table.{entry_of, lesser_of}
 use Rattle.versions.specs.declared.Version.{Version}

@@ -1,9 +1,9 @@
 -- The walk as the code goes it: the limit falls with each step, more steps than are enough change nothing, and what it
 -- comes to is the walk of the definition.
-use mathlib.Core.Path.{◌≡◌, refl, sym, ◌∙◌, ap, subst}
+use mathlib.Core.Path.{◌≡◌, refl, sym, ◌∙◌, subst}
 use mathlib.Core.Bool.{Bool, true, false, not, ◌||◌}
 use mathlib.Core.List.{List}
-use Prim.Native.Nat.{ℕ, zero, suc, ◌<◌, ◌≤◌}
+use Prim.Native.Nat.{ℕ, zero, suc, ◌<◌}
 use native.Mathlib.Nat.{not-suc-le-zero, le_of_suc-le-suc, le_refl, le_trans}
 use lib.Dec.{T, ltb, leb, eqb, nleb→lt}
 use Rattle.terms.specs.Reserved.{no_slot}

@@ -1,10 +1,10 @@
 -- The table emptied from its start, one entry after the other.
-use mathlib.Core.Path.{◌≡◌, refl, sym, ap, ◌∙◌}
+use mathlib.Core.Path.{◌≡◌, refl, ap}
 use mathlib.Core.Bool.{Bool, true, false, cond}
 use Prim.Native.Nat.{ℕ, zero, suc, ◌≤◌}
 use native.Mathlib.Nat.{not-suc-le-zero, le_of_suc-le-suc}
 use mathlib.Core.List.{List, [], ◌∷◌}
-use lib.Dec.{ltb, T, nltb→le}
+use lib.Dec.{ltb, nltb→le}
 use lib.ListN.{length, set}
 use Rattle.versions.specs.Entry.{empty_entry}
 use Rattle.versions.specs.Table.{clear_of, lesser_of}
