@@ -78,7 +78,7 @@ fn read_on<F: Read>(part: &mut Part<F>, space: &mut [u8]) -> io::Result<usize>
     }
 }
 
-// Loads the start of a part, and answers how many bytes it put there.
+// Loads the start of a part, and answers how many bytes it put there. After an error some of the space may be written.
 pub fn load<F: Read + Seek>(part: &mut Part<F>, space: &mut [u8]) -> io::Result<usize>
     ensures { IfOk result (λ n. n ≤ length space.new) }
 {

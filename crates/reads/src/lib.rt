@@ -6,7 +6,8 @@ ghost use Rattle.std.specs.Prelude.{◌≤◌, length, IfOk};
 use std::io;
 use std::io::{ErrorKind, Read};
 
-// Reads until the space is full or the input ends, and answers how many bytes it put at the space's start.
+// Reads until the space is full or the input ends, and answers how many bytes it put at the space's start. After an error
+// some of the space may be written.
 pub fn fill<F: Read>(input: &mut F, space: &mut [u8]) -> io::Result<usize>
     ensures { IfOk result (λ n. n ≤ length space.new) }
 {
