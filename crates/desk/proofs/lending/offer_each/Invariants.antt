@@ -7,9 +7,9 @@ use Rattle.desk.proofs.lending.offer_each.Given as goal
 abbrev pub invariant-loop-k : goal.invariant-loop-k
 invariant-loop-k l =
     let now : Session =
-      offers_of l.piece l.log
-      (session_of (tally_of l.fn.sheet l.fn.rows l.fn.crew) l.fn.records l.fn.newest l.fn.versions l.fn.results)
-      l.k in
+    offers_of l.piece l.log
+    (session_of (tally_of l.fn.sheet l.fn.rows l.fn.crew) l.fn.records l.fn.newest l.fn.versions l.fn.results)
+    l.k in
     record {
       within : l.k ≤ l.count;
       sheet : l.sheet ≡ sheet_of now.tally;
