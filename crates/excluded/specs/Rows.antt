@@ -3,7 +3,7 @@
 -- is refused, the message has the numbers of the rows that exclude nothing.
 --
 --     abbrev pub rows : List Row
---     rows = row number (numberOf NotAscending) 7 ∷ row mark (eqb 65534 noSlot) true ∷ []
+--     rows = row number (number_of NotAscending) 7 ∷ row mark (eqb 65534 no_slot) true ∷ []
 --
 --     pub terms-exclude : AllExclude rows
 --     terms-exclude = all-exclude rows refl
