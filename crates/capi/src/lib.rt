@@ -1,5 +1,5 @@
 // The calls from C, as include/uxoladun.h declares them: check one packed transaction, and run one batch from its
-// opening to its last step. A slice is a pointer and a length there.
+// opening to its last step. `capi_c` exports them; a slice is a pointer and a length there.
 #![tactic(auto)]
 
 mod opened;
@@ -25,8 +25,7 @@ pub struct Ran {
 }
 
 // "Unpacking one entry is given N and checks 1, 2 (length not 88), 4 to 8".
-#[unsafe(no_mangle)]
-pub extern "C" fn uxoladun_check(bytes: &[u8], records: usize, place: &mut u64) -> u32
+pub fn uxoladun_check(bytes: &[u8], records: usize, place: &mut u64) -> u32
     ensures { (result ≡ verdict_number (unpack_of records bytes.now).verdict)
         × (place.new ≡ verdict_place (unpack_of records bytes.now).verdict) }
 {
@@ -44,8 +43,7 @@ fn is_wrong_lent(results: usize, outcomes: usize, counts: usize) -> bool
 }
 
 // A store is made, the batch opened, and every step offered.
-#[unsafe(no_mangle)]
-pub extern "C" fn uxoladun_run(
+pub fn uxoladun_run(
     records: &mut [u64],
     log: &[u8],
     steps: &[u8],

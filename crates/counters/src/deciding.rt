@@ -30,7 +30,7 @@ fn one_action(
             false
         }
         Action::Add { r, c } => {
-            let sum = std::num::wrapping_add_u64(working::contents_in(sets, values, r), c);
+            let sum = working::contents_in(sets, values, r).wrapping_add(c);
             working::write(sets, values, contents, reached, r, sum);
             false
         }
@@ -50,7 +50,7 @@ fn one_action(
         Action::Move { r, s } => {
             let target = working::contents_in(sets, values, r);
             let source = working::contents_in(sets, values, s);
-            let sum = std::num::wrapping_add_u64(target, source);
+            let sum = target.wrapping_add(source);
             working::write(sets, values, contents, reached, r, sum);
             working::write(sets, values, contents, reached, s, 0);
             false

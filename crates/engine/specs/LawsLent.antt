@@ -45,6 +45,7 @@ idle_right b workers size rows w worker on = go (is_idle worker) on
         || count_above worker
         || not (executing_by (row_of rows worker.transaction) w))))
     go true on = or_false b
+    go false on = elim on [ ]
 
 pub busy_wrong : (b : Bool) (workers size : ℕ) (rows : List Row) (w : ℕ) (worker : Worker) → T (not (is_idle worker))
     → (b || (leb workers w || leb size worker.transaction || count_above worker
@@ -61,6 +62,7 @@ busy_wrong b workers size rows w worker off = go (is_idle worker) off
 
     go : (idle : Bool) → T (not idle) → (b || rest) ≡ (b || (not idle && rest))
     go false off = refl
+    go true off = elim off [ ]
 
 -- past the last worker lies an idle one, whatever its values
 same_worker : (workers size : ℕ) (rows : List Row) (k : ℕ) (crew : List Worker) (w : ℕ)
@@ -107,11 +109,14 @@ pub settled_right : (b : Bool) (crew : List Worker) (i : ℕ) (progress : Progre
     → b ≡ (b || not_held_by crew i progress)
 settled_right b crew i Unprocessed on = or_false b
 settled_right b crew i (Complete outcome) on = or_false b
+settled_right b crew i (Executing _) on = elim on [ ]
 
 pub unheld_wrong : (b : Bool) (crew : List Worker) (i : ℕ) (progress : Progress) → T (not (settled progress))
     → (b || not (held_by (worker_of crew (executor_of progress)) (executor_of progress) i))
     ≡ (b || not_held_by crew i progress)
 unheld_wrong b crew i (Executing w) off = refl
+unheld_wrong b crew i Unprocessed off = elim off [ ]
+unheld_wrong b crew i (Complete _) off = elim off [ ]
 
 -- the transactions below a number that nobody holds
 abbrev pub unheld_below : List Row → List Worker → ℕ → Bool

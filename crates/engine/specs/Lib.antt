@@ -2,7 +2,6 @@ pub mod Acts
 pub mod Advance
 pub mod Answers
 pub mod Claim
-pub mod Contracts
 pub mod Counting
 pub mod LawsActs
 pub mod LawsAdvance
@@ -24,6 +23,7 @@ pub mod LawsSeal
 pub mod LawsTables
 pub mod Lent
 pub mod Make
+pub mod Met
 pub mod Moment
 pub mod Open
 pub mod Place

@@ -4,7 +4,7 @@ use Rattle.terms.specs.Unique.{same}
 use Rattle.versions.specs.declared.Version.{Version}
 use Rattle.engine.specs.Answers.{answer_number, answer_place, answer_position}
 use Rattle.engine.specs.Claim.{claim_of}
-use Rattle.engine.specs.Contracts.{OpenMet, PlaceMet, AdvanceMet, SealMet}
+use Rattle.engine.specs.Met.{OpenMet, PlaceMet, AdvanceMet, SealMet}
 use Rattle.engine.specs.Make.{make_of}
 use Rattle.engine.specs.declared.Answer.{Answer}
 use Rattle.engine.specs.declared.Made.{Made}

@@ -1,6 +1,6 @@
 -- Wrong answers of the functions of `versions`, at small tables. Beside each stands the edit that gives it, where one
 -- keeps the code's shape; tools/try-edits tries them again.
-use Rattle.std.specs.Prelude.{ℕ, Bool, true, false, cond, List, [], ◌∷◌, ◌++◌, refl}
+use Rattle.std.specs.Prelude.{ℕ, Bool, true, false, List, [], ◌∷◌, ◌++◌, refl}
 use Rattle.terms.specs.Reserved.{no_slot, no_end}
 use Rattle.versions.specs.Chain.{walk_of}
 use Rattle.versions.specs.Entry.{empty_entry, linked_of, ended_of, filled_of}

@@ -94,7 +94,7 @@ pub fn held(t: Transaction) -> bool
     true
 }
 
-// The hypothesis `eight` of crates/ordered/specs/Theorem.antt.
+// The hypothesis `eight` of crates/ordered/proofs/Theorem.antt.
 pub fn state_held(state: State) -> bool
     ensures { length state.placed ≡ 8 }
 {

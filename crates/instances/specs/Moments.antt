@@ -2,7 +2,7 @@
 use Rattle.std.specs.Prelude.{ℕ, List, ◌≡◌}
 use Rattle.versions.specs.declared.Version.{Version}
 use Rattle.engine.specs.Claim.{claim_of}
-use Rattle.engine.specs.Contracts.{OpenMet, PlaceMet, AdvanceMet, SealMet}
+use Rattle.engine.specs.Met.{OpenMet, PlaceMet, AdvanceMet, SealMet}
 use Rattle.engine.specs.declared.Stepped.{Stepped}
 use Rattle.instances.specs.Listing.{log, after}
 use Rattle.engine.specs.Running.{Engine}

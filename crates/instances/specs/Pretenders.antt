@@ -13,7 +13,7 @@ use Rattle.versions.specs.Step.{preceding_of, end_at, link_of}
 use Rattle.versions.specs.Table.{entry_of, put_of}
 use Rattle.versions.specs.declared.Version.{Version}
 use Rattle.versions.specs.declared.plan.Link.{Link}
-use Rattle.engine.specs.Contracts.{PlaceMet, AdvanceMet, SealMet}
+use Rattle.engine.specs.Met.{PlaceMet, AdvanceMet, SealMet}
 use Rattle.engine.specs.Claim.{claim_of}
 use Rattle.engine.specs.Place.{Plans, place_verdict, placed_when, place_below, place_write, place_of, written_in, slot_of}
 use Rattle.engine.specs.Place.{position_of, write_of, meaning_at}
@@ -188,8 +188,8 @@ offered_meets bytes seal c = ((refl, (refl, (refl, refl))), refl)
 abbrev pub AllMeet : List ℕ → List Offer → Engine → List Turn → Type 0
 AllMeet bytes [] c [] = Unit {0}
 AllMeet bytes [] c (reply ∷ replies) = ⊥
-AllMeet bytes (step ∷ steps) c [] = ⊥
-AllMeet bytes (step ∷ steps) c (reply ∷ replies) = Meets bytes step c reply × AllMeet bytes steps reply.engine
+AllMeet bytes (step ∷ offers) c [] = ⊥
+AllMeet bytes (step ∷ offers) c (reply ∷ replies) = Meets bytes step c reply × AllMeet bytes offers reply.engine
     replies
 
 abbrev built : Stepped → List ℕ → List ℕ → List Version → List ℕ → Turn
@@ -230,11 +230,13 @@ pub answers_determined : (bytes : List ℕ) (steps : List Offer) (c : Engine) (r
     → AllMeet bytes steps c replies → map (λ reply. reply.answer) replies ≡ (played bytes steps c).answers
 unfolding played
 answers_determined bytes [] c [] met = refl
-answers_determined bytes (step ∷ steps) c (reply ∷ replies) met =
+answers_determined bytes (step ∷ offers) c (reply ∷ replies) met =
     let first = reply_determined bytes step c reply met.0 in
-    let rest = answers_determined bytes steps reply.engine replies met.1 in
+    let rest = answers_determined bytes offers reply.engine replies met.1 in
     ap (λ answers. reply.answer ∷ answers) rest
-    ∙ ap (λ r. r.answer ∷ (played bytes steps r.engine).answers) first
+    ∙ ap (λ r. r.answer ∷ (played bytes offers r.engine).answers) first
+answers_determined bytes [] c (reply ∷ replies) met = elim met [ ]
+answers_determined bytes (step ∷ offers) c [] met = elim met [ ]
 
 -- "the listing's counts are those of answers demand 2 determines": whoever meets the contracts at each of the 29 steps
 -- gives these answers

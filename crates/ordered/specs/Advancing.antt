@@ -13,7 +13,7 @@ use Rattle.counters.specs.Storing.{in_four}
 use Rattle.counters.specs.declared.Decision.{Decision}
 use Rattle.counters.specs.declared.Outcome.{Outcome}
 use Rattle.engine.specs.Acts.{act_of}
-use Rattle.engine.specs.Advance.{look_of, unfilled, goes_on, waits_for, completed, reads, decides, move_by, put_four}
+use Rattle.engine.specs.Advance.{look_of, unfilled, goes_on, waits_for, reads, decides, move_by, put_four}
 use Rattle.engine.specs.Place.{meaning_at}
 use Rattle.engine.specs.Range.{worker_at}
 use Rattle.engine.specs.Rows.{row}

@@ -10,14 +10,14 @@ use Rattle.engine.specs.declared.Answer.TheVariants.{Waits}
 use Rattle.engine.specs.declared.State.{State}
 use Rattle.terms.specs.declared.position.Position.{Position}
 use Rattle.order.specs.Batch as order
-use Rattle.order.specs.Found as found
+use Rattle.order.proofs.Found as found
 use Rattle.order.specs.Invariant as invariant
 use Rattle.order.specs.LastWrite as last
 use Rattle.order.specs.Machine as machine
 use Rattle.order.specs.Plan as plan
-use Rattle.order.specs.Safety.{wait_names}
+use Rattle.order.proofs.Safety.{wait_names}
 use Rattle.order.specs.Store as store
-use Rattle.order.specs.Walk as walk
+use Rattle.order.proofs.Walk as walk
 use Rattle.ordered.specs.Acting.{advance_makes, advance_can}
 use Rattle.ordered.specs.Describing.{Describes}
 use Rattle.ordered.specs.Looking.{walked_to, all_placed, walk_ends}

@@ -11,7 +11,7 @@ use Rattle.versions.specs.Step.{fill_of}
 use Rattle.counters.specs.Storing.{in_four}
 use Rattle.counters.specs.declared.Outcome.{Outcome}
 use Rattle.engine.specs.Acts.{marks_of, next_carried, act_of}
-use Rattle.engine.specs.Advance.{look_of, unfilled, goes_on, waits_for, completed, with_fill, carries, after_fill}
+use Rattle.engine.specs.Advance.{look_of, unfilled, goes_on, waits_for, with_fill, carries, after_fill}
 use Rattle.engine.specs.Advance.{fills_in, move_by, put_four}
 use Rattle.engine.specs.Place.{meaning_at, slot_of, write_of}
 use Rattle.engine.specs.Range.{worker_at}

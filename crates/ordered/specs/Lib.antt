@@ -1,4 +1,4 @@
--- Demand 3 for the engine: what a reader has to believe, the refinement, and the theorem.
+-- Demand 3 for the engine: what a reader has to believe, and the refinement. The theorem stands in proofs/.
 
 -- What is spoken of: the engine with its tables and the steps offered to it, what is promised, what one may ask.
 pub mod Promise
@@ -29,16 +29,9 @@ pub mod Filling
 pub mod Acting
 pub mod Sealing
 pub mod Closed
-pub mod Meanings
-pub mod Opening
--- The engine meets the order theorem's interface; what a sealed engine holds; what a refused or a wrongly lent call
--- does.
+-- The engine meets the order theorem's interface; what a refused or a wrongly lent call does.
 pub mod Meeting
-pub mod Ending
 pub mod Keeping
 pub mod Lending
 pub mod Answering
 pub mod Refusing
--- The theorem.
-pub mod Reached
-pub mod Theorem

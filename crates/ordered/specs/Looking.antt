@@ -16,7 +16,7 @@ use Rattle.engine.specs.Tables.{newest_of}
 use Rattle.engine.specs.declared.State.{State}
 use Rattle.engine.specs.declared.moves.Seen.TheVariants.{Contents, NotYet}
 use Rattle.order.specs.Batch as order
-use Rattle.order.specs.Found.{walk_to_last}
+use Rattle.order.proofs.Found.{walk_to_last}
 use Rattle.order.specs.Invariant as invariant
 use Rattle.order.specs.LastWrite.{last_write, WriteOf, write_below, last_known, last_since, none_since}
 use Rattle.order.specs.Machine as machine
@@ -116,8 +116,9 @@ module _ (B : order.Batch ℕ Outcome) (o : State) (log stored : List ℕ) (d : 
       let at : position_of e.state i ≡ position_of o i = ap (λ x. x.0 + i) stands.fixed.next_fixed in
       let newest_is : last_write B r o.size ≡ m.plan.newest r =
       sym ((sound.planned.linked r).newest_is ∙ ap (last_write B r) (all_placed r)) in
-      rw (bound, at)
-      (walk_is r i (suc (4 * o.size)) (4 * o.size) o.size (m.plan.newest r) (newest_of e.newest r) most
+      ap (λ l. walk_from e.versions (position_of e.state i) (suc l) l (newest_of e.newest r)) bound
+      ∙ ap (λ t. walk_from e.versions t (suc (4 * o.size)) (4 * o.size) (newest_of e.newest r)) at
+      ∙ (walk_is r i (suc (4 * o.size)) (4 * o.size) o.size (m.plan.newest r) (newest_of e.newest r) most
       (omega arith) newest_is (stands.plan_is.newest_is r there) (omega arith) (omega arith))
 
   -- what a look at a record shows is what the machine finds: contents, or a version that is not produced

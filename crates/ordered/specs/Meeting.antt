@@ -15,13 +15,13 @@ use Rattle.engine.specs.declared.Progress.{Progress}
 use Rattle.engine.specs.declared.Progress.TheVariants.{Unprocessed, Executing, Complete}
 use Rattle.engine.specs.declared.State.{State}
 use Rattle.order.specs.Batch as order
-use Rattle.order.specs.Found.{walk_to_last}
+use Rattle.order.proofs.Found.{walk_to_last}
 use Rattle.order.specs.Interface as interface
 use Rattle.order.specs.Invariant as invariant
 use Rattle.order.specs.LastWrite.{last_write, last_known}
 use Rattle.order.specs.Machine as machine
 use Rattle.order.specs.Plan as plan
-use Rattle.order.specs.Safety.{complete_planned}
+use Rattle.order.proofs.Safety.{complete_planned}
 use Rattle.order.specs.Store as store
 use Rattle.order.specs.Tables.{first_values}
 use Rattle.order.specs.TableLaws.{clash, length_first, get_d_first}

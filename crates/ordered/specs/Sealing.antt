@@ -28,7 +28,7 @@ use Rattle.order.specs.Invariant as invariant
 use Rattle.order.specs.LastWrite.{last_write, last_known}
 use Rattle.order.specs.Machine as machine
 use Rattle.order.specs.Plan as plan
-use Rattle.order.specs.Safety.{complete_planned}
+use Rattle.order.proofs.Safety.{complete_planned}
 use Rattle.order.specs.Store as store
 use Rattle.order.specs.TableLaws.{clash}
 use Rattle.ordered.specs.Chains.{passes, right_fails, none_holds}

@@ -9,7 +9,7 @@ use Rattle.order.specs.Batch as order
 use Rattle.order.specs.Machine as machine
 use Rattle.order.specs.Store as store
 use Rattle.ordered.specs.Relation.{Stands}
-use Rattle.engine.specs.Running.{Engine, Offer, place, claim, advance, seal, Turn, offered}
+use Rattle.engine.specs.Running.{Engine, place, claim, advance, seal, Turn, offered}
 
 abbrev pub reply_of : Answer → Engine → store.Reply Engine
 reply_of Accepted e = store.accepted machine.stepped e

@@ -25,8 +25,8 @@ use Rattle.desk.specs.Program.{number_at, numbers_of, printed}
 use Rattle.desk.specs.Program as program
 use Rattle.desk.specs.Steps.{whole_steps}
 use Rattle.desk.specs.Text.{refused_line}
-use Rattle.ordered.specs.Opening.{opens}
-use Rattle.ordered.specs.Reached as reached
+use Rattle.ordered.proofs.Opening.{opens}
+use Rattle.ordered.proofs.Reached as reached
 use Rattle.capi.specs.Lent.{wrong_lent, slots_of}
 use Rattle.capi.specs.Running.{Returned, returned_by, after_opened, batch_of, opening_number, ran_of}
 use Rattle.capi.specs.Running as library

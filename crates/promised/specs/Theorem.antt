@@ -28,10 +28,10 @@ use Rattle.desk.specs.Offer.{Session, session_of}
 use Rattle.desk.specs.Steps.{whole_steps}
 use Rattle.desk.specs.declared.Tally.{Tally}
 use Rattle.counters.specs.OneByOne.{Ran, one_by_one}
-use Rattle.ordered.specs.Meanings.{meanings_length}
-use Rattle.ordered.specs.Opening.{opens}
+use Rattle.ordered.proofs.Meanings.{meanings_length}
+use Rattle.ordered.proofs.Opening.{opens}
 use Rattle.ordered.specs.Promise.{AsOneByOne, meanings_from, ran_one_by_one, complete_row, results_for}
-use Rattle.ordered.specs.Theorem.{safety}
+use Rattle.ordered.proofs.Theorem.{safety}
 use Rattle.capi.specs.Lent.{wrong_lent, slots_of}
 use Rattle.capi.specs.Report.{outcomes_of, counts_of, sealed_number}
 use Rattle.capi.specs.Running.{Returned, offered_bytes, batch_of, opening_number, made_ran, keeps, after_making, ran_of}

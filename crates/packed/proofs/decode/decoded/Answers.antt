@@ -1,7 +1,15 @@
-use Rattle.std.proofs.Common.{rules, ◌≡◌, ◌+◌, ◌≤◌, length, ℕ, ◌-◌, ◌*◌, ◌<◌, ◌/◌, ◌%◌, Bool, true, false, nat_eq, nat_lt, List, [], ◌∷◌, ◌++◌, slice_index_or, slice_set, bit_and, bit_or, Fits, w8, w32, w64, Bor, MutBor}
-use Rattle.packed.specs.Decode.{action_of, row_at, decode, nothing}
+use Rattle.std.proofs.Common.{refl}
+use Rattle.packed.specs.Decode.{decode}
 use Rattle.packed.proofs.decode.decoded.Goals as goal
 
--- src/decode.rt:32:1
 pub returns : goal.returns
-returns c = ?
+unfolding decode
+returns c =
+    rw (
+      c.row_at-4.ensures,
+      c.row_at-3.ensures,
+      c.row_at-2.ensures,
+      c.row_at.ensures,
+      c.set_at-writes.ensures,
+      c.set_at-reads.ensures,
+    ) refl

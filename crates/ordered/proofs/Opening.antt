@@ -12,7 +12,7 @@ use Rattle.terms.specs.Reserved.{no_slot, no_end}
 use Rattle.terms.specs.declared.refusal.Verdict.TheVariants.{Accepted}
 use Rattle.packed.specs.Decode.{nothing}
 use Rattle.packed.specs.LawsForm.{not_left, not_right}
-use Rattle.packed.specs.Unpacking.{entry_of, unpack_at_of}
+use Rattle.packed.specs.Unpacking.{unpack_at_of}
 use Rattle.versions.specs.Entry.{empty_entry}
 use Rattle.versions.specs.Table as versions
 use Rattle.versions.specs.declared.Version.{Version}
@@ -29,7 +29,7 @@ use Rattle.engine.specs.Workers.{idle_worker}
 use Rattle.engine.specs.declared.Phase.TheVariants.{Idle}
 use Rattle.engine.specs.declared.Progress.TheVariants.{Unprocessed}
 use Rattle.engine.specs.declared.State.{State}
-use Rattle.order.specs.ListLaws.{fitting_proper}
+use Rattle.order.proofs.ListLaws.{fitting_proper}
 use Rattle.order.specs.ListRun as listed
 use Rattle.order.specs.Machine as machine
 use Rattle.order.specs.Plan as plan
@@ -39,7 +39,7 @@ use Rattle.ordered.specs.Describing.{Describes}
 use Rattle.ordered.specs.Promise.{meanings_from}
 use Rattle.ordered.specs.Relation.{Stands}
 use Rattle.engine.specs.Running.{Engine}
-use Rattle.ordered.specs.Meanings.{meanings_length, turn_accepted, accepted_declared, all_declared, meaning_at_lem}
+use Rattle.ordered.proofs.Meanings.{meanings_length, turn_accepted, accepted_declared, all_declared, meaning_at_lem}
 
 -- a table of equal entries, read with the same default
 get_d_all : {A : Type 0} (count k : ℕ) (x : A) → get_or (replicate count x) k x ≡ x

@@ -7,7 +7,6 @@ use Rattle.packed.specs.Checks.{verdict_of}
 use Rattle.packed.specs.Decode.{decode}
 use Rattle.packed.specs.LawsVerdict.{sound, unpacked_verdict}
 use Rattle.packed.specs.Unpacking.{entry_of, unpack_at_of}
-use Rattle.packed.specs.declared.Transaction.{Transaction}
 use Rattle.counters.specs.Declarations.{Declared, AllDeclared}
 use Rattle.counters.specs.LawsDeclarations.{proper_declared}
 use Rattle.counters.specs.declared.Outcome.{Outcome}

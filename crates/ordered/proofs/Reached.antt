@@ -20,12 +20,12 @@ use Rattle.engine.specs.declared.State.{State}
 use Rattle.order.specs.Batch as order
 use Rattle.order.specs.Interface as interface
 use Rattle.order.specs.Invariant as invariant
-use Rattle.order.specs.ListLaws.{fitting_inside, as_listed}
+use Rattle.order.proofs.ListLaws.{fitting_inside, as_listed}
 use Rattle.order.specs.ListRun as listed
 use Rattle.order.specs.Machine as machine
-use Rattle.order.specs.Progress.{can_be_sealed}
-use Rattle.order.specs.Reached as order_reached
-use Rattle.order.specs.Safety.{opened_sound}
+use Rattle.order.proofs.Progress.{can_be_sealed}
+use Rattle.order.proofs.Reached as order_reached
+use Rattle.order.proofs.Safety.{opened_sound}
 use Rattle.order.specs.Store as store
 use Rattle.order.specs.TableLaws.{clash}
 use Rattle.ordered.specs.Answering.{waits_for_earlier, finds_only}
@@ -34,14 +34,14 @@ use Rattle.ordered.specs.Closed.{all_refused}
 use Rattle.ordered.specs.Counters.{ruled, joined}
 use Rattle.ordered.specs.Counters as counters
 use Rattle.ordered.specs.Describing.{Describes}
-use Rattle.ordered.specs.Ending.{outcomes_hold, results_hold, next_holds, batch_holds}
+use Rattle.ordered.proofs.Ending.{outcomes_hold, results_hold, next_holds, batch_holds}
 use Rattle.ordered.specs.Keeping.{refused_keeps, to_store, from_store, reply_same, after_same, sealed_same}
 use Rattle.ordered.specs.Keeping.{all_same}
 use Rattle.ordered.specs.Lending.{no_seal}
-use Rattle.ordered.specs.Meanings.{meanings_length}
+use Rattle.ordered.proofs.Meanings.{meanings_length}
 use Rattle.ordered.specs.Meeting.{engine_store, WasSealed, engine_meets}
-use Rattle.ordered.specs.Opening.{setting_of, declared_log, fitting, describes, just_opened}
-use Rattle.ordered.specs.Opening.{just_stands}
+use Rattle.ordered.proofs.Opening.{setting_of, declared_log, fitting, describes, just_opened}
+use Rattle.ordered.proofs.Opening.{just_stands}
 use Rattle.ordered.specs.Promise.{meanings_from, ran_one_by_one, complete_row, results_for, AsOneByOne, step_bound}
 use Rattle.ordered.specs.Promise.{CanBeSealed}
 use Rattle.ordered.specs.Questions.{WaitsForEarlier, walk_for, FindsOnly, OfTheMoment}

@@ -18,7 +18,7 @@ use Rattle.engine.specs.Open.{entries_in}
 use Rattle.engine.specs.declared.Answer.TheVariants.{Waits}
 use Rattle.ordered.specs.Promise.{meanings_from, ran_one_by_one, AsOneByOne, step_bound, CanBeSealed}
 use Rattle.ordered.specs.Questions.{WaitsForEarlier, walk_for, FindsOnly, OfTheMoment}
-use Rattle.ordered.specs.Reached as reached
+use Rattle.ordered.proofs.Reached as reached
 use Rattle.engine.specs.Running.{Engine, Offer, advance, is_accepted, opening, offered, after_all, seal_accepted}
 
 module _ (log : List ℕ) (e : Engine) (eight : length e.state.placed ≡ 8)

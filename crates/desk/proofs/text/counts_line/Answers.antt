@@ -1,0 +1,16 @@
+use Rattle.desk.specs.LawsText.{counts_made}
+use Rattle.desk.proofs.text.counts_line.Goals as goal
+
+pub returns : goal.returns
+returns c =
+    rw (
+      c.push_text-4.ensures,
+      c.push_number-third.ensures,
+      c.push_text-3.ensures,
+      c.push_number-second.ensures,
+      c.push_text-2.ensures,
+      c.push_number-first.ensures,
+      c.push_text.ensures,
+      c.blank.ensures,
+    )
+    (counts_made c.args.steps c.args.refused c.args.waits)

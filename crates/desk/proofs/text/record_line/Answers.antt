@@ -1,0 +1,14 @@
+use Rattle.desk.specs.LawsText.{rec_made}
+use Rattle.desk.proofs.text.record_line.Goals as goal
+
+pub returns : goal.returns
+returns c =
+    rw (
+      c.push_text-3.ensures,
+      c.push_number-line.ensures,
+      c.push_text-2.ensures,
+      c.push_number-begun.ensures,
+      c.push_text.ensures,
+      c.blank.ensures,
+    )
+    (rec_made c.args.number c.args.contents)

@@ -1,0 +1,7 @@
+use Rattle.desk.specs.LawsText.{refused_made}
+use Rattle.desk.proofs.text.refused_line.Goals as goal
+
+pub returns : goal.returns
+returns c =
+    rw (c.push_text-2.ensures, c.push_number-line.ensures, c.push_text.ensures, c.blank.ensures)
+    (refused_made c.args.number)

@@ -1,0 +1,18 @@
+use Rattle.std.proofs.Common.{◌≡◌, arith, length, take}
+use Rattle.desk.specs.LawsLines.{four_few}
+use Rattle.desk.specs.LawsText.{tx_made}
+use Rattle.desk.proofs.text.transaction_line.Goals as goal
+
+pub returns : goal.returns
+returns c =
+    let four : length c.args.values ≡ 4 = omega arith in
+    rw (
+      c.push_text-2.ensures,
+      c.push_spaced-line.ensures,
+      c.push_outcome.ensures,
+      c.push_number-begun.ensures,
+      c.push_text.ensures,
+      c.blank.ensures,
+    )
+    (tx_made c.args.position c.args.outcome (take c.args.count c.args.values)
+    (four_few c.args.values c.args.count four))

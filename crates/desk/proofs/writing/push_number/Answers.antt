@@ -1,0 +1,7 @@
+use Rattle.std.proofs.Common.{refl}
+use Rattle.desk.specs.Text.{decimal}
+use Rattle.desk.proofs.writing.push_number.Goals as goal
+
+pub returns : goal.returns
+unfolding decimal
+returns c = c.push_digits.ensures
