@@ -25,7 +25,8 @@ class Errors(unittest.TestCase):
         self.assertEqual(try_edits.first_error("./specs/Reached.antt:9:1: error: no"), ("specs/Reached.antt:9:1", "no"))
 
     def test_what_only_follows_is_not_first(self):
-        self.assertEqual(try_edits.first_error(f"note: src/refusal.rt:37:5: {RETURNS}"), ("src/refusal.rt:37:5", RETURNS))
+        told = f"note: src/refusal.rt:37:5: {RETURNS}"
+        self.assertEqual(try_edits.first_error(told), ("src/refusal.rt:37:5", RETURNS))
 
     def test_what_only_follows_where_it_is_all(self):
         told = "./proofs/of/Proof.antt:22:11: error: `of-spec`: `close` was not admitted"
