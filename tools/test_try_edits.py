@@ -11,7 +11,7 @@ try_edits = importlib.util.module_from_spec(importlib.util.spec_from_loader("try
 LOADER.exec_module(try_edits)
 
 RETURNS = "it is not proved that what the function ensures holds when it returns (`returns`)"
-LITTLE = "(only because a proof file names what the edit took away, so this says little of the contract: change a value)"
+LITTLE = "(only because a proof file names what the edit took away, so this says little: change a value)"
 LIMIT = "(only by a limit of the prover, which gave no verdict, so this says less of the contract: choose another)"
 
 
