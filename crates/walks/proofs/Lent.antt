@@ -1,20 +1,23 @@
 -- A function that holds a `&κ mut [T]` lends it on for the lifetime κ' of a call, as `&mut [T]` or as `&[T]`, and has
 -- it again when κ' is over. The slice lies at (b, o); the holder knows it by the ghost name γ, with the elements ys,
--- and has the share q of κ's token. `Room` says that so many elements fit into memory. Assumes `Logic`.
+-- and has the share q of κ's token. `Room` says that so many elements fit into memory. What is lent as `&[T]` is shared
+-- out element by element, by T's law (`Shares`), with tokens whose lifetimes' meet is within κ', and they come back.
+-- Assumes `Logic`.
 use mathlib.Core.Path.{◌≡◌, refl, sym, ap, subst}
 use Prim.Native.Nat.{ℕ}
 use mathlib.Core.List.{List, [], ◌∷◌}
 use lib.ListN.{length}
 use seplogic.Ra.Ura.{Ura}
-use seplogic.Ra.TreeShare.{full_share}
+use base.Fraction.{full_share}
 use mir.Syntax.{Lifetime}
 use mir.Val.{Val}
 use base.Logic.{SProp, ent, sep, ex}
-use base.Fml.{Lft, GName, Share, Fml, fsep, flft, fdead, fobs, fauth, flent, fobor}
-use types.Logic.{Logic, sem}
+use base.Fml.{Lft, GName, Share, Fml, Incl, fsep, flft, fdead, fobs, fauth, flent, fobor}
+use ghost.Rules.{Toks, span}
+use types.Logic.{Logic, sem, lfts}
 use types.Kit.{
-  Given,
   ‵,
+  raw,
   ◌⊛◌,
   some,
   later,
@@ -31,6 +34,7 @@ use types.Kit.{
   pick,
   fsplit,
   fjoin,
+  join,
   feq_i,
   frame,
   await,
@@ -45,14 +49,19 @@ use types.Tokens.{lent_back}
 use denote.RattleType.{RattleType}
 use denote.Shadow.{pure_i}
 use denote.Memory.{mem, shares}
-use denote.Ref.{MutBor}
-use denote.Slice.{slice_val, MutSlice, ShrSlice, heres, Room, finally, shr_slice_at, coded_holeys}
+use denote.Ref.{Bor, MutBor}
+use denote.Shares.{Shares}
+use denote.Slice.{slice_val, MutSlice, ShrSlice, heres, Room, finally, mut_slice_at, coded_holeys}
 use denote.Lend.{Held, lends_slice, slice_back, lends_shr_slice}
 use denote.Index.{row, whole_out, whole_in, opens_slice, closes_slice}
 
 module _ (R : RattleType) (κ : Lft) (q : Share) (γ : GName) (b o : ℕ) (ys : List R.Denot) where
   abbrev at_list : GName → List R.Denot → MutBor (List R.Denot)
   at_list δ l = record { ref_ptr = (b, o); ghost_name = δ; now = l }
+
+  -- as a `&[T]`, which has no name
+  abbrev shr_list : List R.Denot → Bor (List R.Denot)
+  shr_list l = record { ref_ptr = (b, o); now = l }
 
   -- the machine value of the slice: a pointer and a count
   abbrev vals : List Val
@@ -99,7 +108,7 @@ module _ (R : RattleType) (κ : Lft) (q : Share) (γ : GName) (b o : ℕ) (ys : 
     shuts zs room e =
         qed 𝓛 (‵ (row R full_share zs b o) ∷ ‵ Open ∷ []) ∵ updating ! $ move ! (1 ∷ []) $ fsplit ! $
         move ! (1 ∷ []) $ fsplit ! $ move ! (3 ∷ 2 ∷ 0 ∷ 1 ∷ []) $ closes_slice ! tt R ys zs e b o $ at_once ! $
-        fjoin ! $ pure_i ! (shr_slice_at R (at_list γ zs) vals) (tt, (tt, tt)) (
+        fjoin ! $ pure_i ! (mut_slice_at R (at_list γ zs) vals) (tt, (tt, tt)) (
           ap (λ (m : ℕ). slice_val (b, o) m ∷ [])
               (sym e),
           subst (Room R) (sym e) room,
@@ -131,17 +140,17 @@ module _ (R : RattleType) (κ : Lft) (q : Share) (γ : GName) (b o : ℕ) (ys : 
           frame ! $ done !
 
       -- the slice with its token gives a `&κ' [T]` of the same elements, and LentShr
-      pub lends_shr : ent 𝓤 (sep 𝓤 (sem 𝓛 (slice ys)) (A.lft κ q)) (H.⇛ (ex 𝓤 (λ (δ : GName). sep 𝓤 (sem 𝓛
-          ((ShrSlice ℓ' κ' R).own_val (at_list δ ys) vals)) (sem 𝓛 (LentShr κ')))))
-      lends_shr =
-          qed 𝓛 (‵ (slice ys) ∷ ‵ (flft κ q) ∷ []) ∵ updating ! $
+      pub lends_shr : (l : Lft) → Shares 𝓛 R l → (ts : Toks) → Incl (span ts) l → Incl (span ts) κ'
+          → ent 𝓤 (sep 𝓤 (sem 𝓛 (slice ys)) (sep 𝓤 (A.lft κ q) (lfts 𝓛 ts))) (H.⇛ (sep 𝓤 (sem 𝓛
+          ((ShrSlice ℓ' κ' R).own_val (shr_list ys) vals)) (sep 𝓤 (sem 𝓛 (LentShr κ')) (lfts 𝓛 ts))))
+      lends_shr l shares ts inc sp =
+          qed 𝓛 (‵ (slice ys) ∷ ‵ (flft κ q) ∷ raw (lfts 𝓛 ts) ∷ []) ∵ updating ! $
           use2 𝓛 (later (‵ (row R full_share ys b o) ⊛ ‵ Open)) opens $ await ! tt $ split ! $
-          feq_i ! ℕ (length ys) (length ys) refl $ fjoin ! $
-          use1 𝓛 (later (some (λ (δ : GName). ‵ ((ShrSlice ℓ' κ' R).own_val (at_list δ ys) vals) ⊛ ‵
-          (flent κ' elements)))) (lends_shr_slice 𝓛 R ℓ' κ' full_share ys b o room) $ await ! tt $
-          pick ! (λ δ. split ! $
-          at_once ! $ show ! (λ (δ' : GName). sep 𝓤 (sem 𝓛 ((ShrSlice ℓ' κ' R).own_val (at_list δ' ys) vals))
-          (sem 𝓛 (LentShr κ'))) δ $ frame ! $ fjoin ! $ done !)
+          feq_i ! ℕ (length ys) (length ys) refl $ fjoin ! $ move ! (0 ∷ 2 ∷ []) $
+          use2 𝓛 (later ((‵ ((ShrSlice ℓ' κ' R).own_val (shr_list ys) vals) ⊛ ‵ (flent κ' elements)) ⊛ raw
+          (lfts 𝓛 ts))) (lends_shr_slice 𝓛 R ℓ' κ' full_share ys b o room l shares ts inc sp) $ await ! tt $
+          -- [the `&[T]`; the lender's part; the tokens; Open]
+          split ! $ split ! $ move ! (1 ∷ 3 ∷ []) $ fjoin ! $ at_once ! $ move ! (1 ∷ []) $ frame ! $ done !
 
       -- when κ' is over, LentShr gives the slice with its token, as it was
       pub shr_back : ent 𝓤 (sep 𝓤 (A.dead κ') (sem 𝓛 (LentShr κ'))) (H.⇛ (sep 𝓤 (sem 𝓛 (slice ys))

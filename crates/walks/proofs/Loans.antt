@@ -3,19 +3,19 @@
 -- lifetime, what the callee gets, and what is kept. A return takes the token, what the callee gave back and what was
 -- kept, and leaves the slice and its token.
 -- The slice's machine value has the count m, and the list that it owns is as long: so the local that holds the slice is
--- never rewritten. Assumes `Logic`.
+-- never rewritten. To lend it as `&[T]` takes T's law of sharing (`Shares`) at the new lifetime, which a type has that
+-- can be copied (`denote.Copied`'s `shares`). Assumes `Logic`.
 use mathlib.Core.Path.{◌≡◌, refl, sym, ◌∙◌, subst}
 use Prim.Native.Nat.{ℕ}
 use mathlib.Core.List.{List, [], ◌∷◌}
 use lib.ListN.{length}
 use seplogic.Ra.Ura.{Ura}
-use seplogic.Ra.TreeShare.{full_share}
+use base.Fraction.{full_share}
 use mir.Syntax.{named}
 use base.Logic.{ent}
 use base.Fml.{Lft, GName, Share, Fml, flft, flent}
 use types.Logic.{Logic}
 use types.Kit.{
-  Given,
   Item,
   Goal,
   Soaks,
@@ -35,6 +35,7 @@ use types.Kit.{
   use2,
   use3,
   split,
+  split3,
   pick,
   rewrite,
   fsplit,
@@ -44,6 +45,7 @@ use types.SemTy.{cells, Arr}
 use types.Tokens.{lft_new, lft_end}
 use denote.RattleType.{RattleType}
 use denote.Memory.{mem}
+use denote.Shares.{Shares}
 use denote.Slice.{slice_val, MutSlice, ShrSlice, Room, finally}
 use denote.Lend.{Held, lends_slice, slice_back}
 use denote.Index.{row, whole_out, whole_in}
@@ -51,11 +53,12 @@ use Rattle.walks.proofs.Lent.{LentMut, lends_mut, mut_back, LentShr, lends_shr, 
 
 -- a `&mut [T]` at (b, o) with the count m, at the lifetime κ, under the name δ, with the elements l
 abbrev pub holds : (R : RattleType) → ℕ → ℕ → ℕ → Lft → GName → List R.Denot → Fml
-holds R b o m κ δ l = (MutSlice (named 0) κ R).own_val (record { ref_ptr = (b, o); ghost_name = δ; now = l }) (slice_val (b, o) m ∷ [])
+holds R b o m κ δ l =
+    (MutSlice (named 0) κ R).own_val (record { ref_ptr = (b, o); ghost_name = δ; now = l }) (slice_val (b, o) m ∷ [])
 
--- a `&[T]`, the same
-abbrev pub sees : (R : RattleType) → ℕ → ℕ → ℕ → Lft → GName → List R.Denot → Fml
-sees R b o m κ δ l = (ShrSlice (named 0) κ R).own_val (record { ref_ptr = (b, o); now = l }) (slice_val (b, o) m ∷ [])
+-- a `&[T]`, the same, which has no name
+abbrev pub sees : (R : RattleType) → ℕ → ℕ → ℕ → Lft → List R.Denot → Fml
+sees R b o m κ l = (ShrSlice (named 0) κ R).own_val (record { ref_ptr = (b, o); now = l }) (slice_val (b, o) m ∷ [])
 
 module _ {M : Type 1} {𝓤 : Ura M} (𝓛 : Logic 𝓤) (R : RattleType) (b o m : ℕ)
     (ys : List R.Denot) (e : length ys ≡ m) (room : Room R m) {K : Type 0} {Γ : List (Item 𝓤)} (t : K)
@@ -81,15 +84,16 @@ module _ {M : Type 1} {𝓤 : Ura M} (𝓛 : Logic 𝓤) (R : RattleType) (b o m
         (ν ∷ []) (named 0) (subst (Room R) (sym e) room) δ zs l) $ await t s $ split t $
         rewrite t 0 (λ (n : ℕ). ‵ (holds R b o n κ γ zs)) e refl $ k
 
-    -- a `&mut [T]` that the walk holds, lent as `&[T]`
-    pub lend_shr : ((ν : ℕ) (δ : GName) → Seq K 𝓛 (‵ (flft (ν ∷ []) full_share) ∷ ‵ (sees R b o m (ν ∷ []) δ ys) ∷ ‵
-        (LentShr R κ q γ b o ys (ν ∷ [])) ∷ Γ) G) → Seq K 𝓛 (‵ (holds R b o m κ γ ys) ∷ ‵ (flft κ q) ∷ Γ) G
-    lend_shr k =
-        rewrite t 0 (λ (n : ℕ). ‵ (holds R b o n κ γ ys)) (sym e) refl $ lft_new t s (λ ν. move t (1 ∷ 2 ∷ []) $
-        use2 𝓛 (later (some (λ (δ : GName). ‵ (sees R b o (length ys) (ν ∷ []) δ ys) ⊛ ‵ (LentShr R κ q γ b o ys
-        (ν ∷ []))))) (lends_shr R κ q γ b o ys 𝓛 (named 0) (ν ∷ []) (named 0) (subst (Room R) (sym e)
-        room)) $ await t s $ pick t (λ δ. split t $
-        rewrite t 0 (λ (n : ℕ). ‵ (sees R b o n (ν ∷ []) δ ys)) e refl $ move t (2 ∷ 0 ∷ []) $ k ν δ))
+    -- a `&mut [T]` that the walk holds, lent as `&[T]`. The new lifetime's own token shares it out
+    pub lend_shr : ((ν : ℕ) → Shares 𝓛 R (ν ∷ [])) → ((ν : ℕ) → Seq K 𝓛 (‵ (flft (ν ∷ []) full_share) ∷ ‵ (sees R b o
+        m (ν ∷ []) ys) ∷ ‵ (LentShr R κ q γ b o ys (ν ∷ [])) ∷ Γ) G)
+        → Seq K 𝓛 (‵ (holds R b o m κ γ ys) ∷ ‵ (flft κ q) ∷ Γ) G
+    lend_shr shares k =
+        rewrite t 0 (λ (n : ℕ). ‵ (holds R b o n κ γ ys)) (sym e) refl $ lft_new t s (λ ν. move t (1 ∷ 2 ∷ 0 ∷ []) $
+        use3 𝓛 (later (‵ (sees R b o (length ys) (ν ∷ []) ys) ⊛ ‵ (LentShr R κ q γ b o ys (ν ∷ [])) ⊛ ‵
+        (flft (ν ∷ []) full_share))) (lends_shr R κ q γ b o ys 𝓛 (named 0) (ν ∷ []) (named 0) (subst (Room R) (sym e)
+        room) (ν ∷ []) (shares ν) ((ν ∷ [], full_share) ∷ []) (λ x i. i) (λ x i. i)) $ await t s $ split3 t $
+        rewrite t 0 (λ (n : ℕ). ‵ (sees R b o n (ν ∷ []) ys)) e refl $ move t (2 ∷ 0 ∷ []) $ k ν)
 
     -- it comes back, as it was
     pub back_shr : (ν : ℕ) → Seq K 𝓛 (‵ (holds R b o m κ γ ys) ∷ ‵ (flft κ q) ∷ Γ) G
@@ -112,7 +116,8 @@ module _ {M : Type 1} {𝓤 : Ura M} (𝓛 : Logic 𝓤) (R : RattleType) (b o m
 
   -- it comes back, a row of the elements zs
   pub back_own : (ν : ℕ) (δ : GName) (zs : List R.Denot) → Seq K 𝓛 (‵ (row R full_share zs b o) ∷ Γ) G
-      → Seq K 𝓛 (‵ (flft (ν ∷ []) full_share) ∷ ‵ (finally R δ zs) ∷ ‵ (flent (ν ∷ []) (Held R (length ys) b o δ)) ∷ Γ) G
+      → Seq K 𝓛 (‵ (flft (ν ∷ []) full_share) ∷ ‵ (finally R δ zs) ∷ ‵ (flent (ν ∷ []) (Held R (length ys) b o δ)) ∷ Γ)
+      G
   back_own ν δ zs k =
       lft_end t s $ move t (0 ∷ 2 ∷ 1 ∷ []) $
       use3 𝓛 (later (‵ ((Arr (mem R) (length ys)).own_at zs b o))) (slice_back 𝓛 R (ν ∷ []) δ zs (length ys)

@@ -1,7 +1,26 @@
 -- A function's locals and body, so that the walk of one writes out no type and no rest of the body.
 use Prim.Native.Nat.{ℕ, zero, suc}
 use mathlib.Core.List.{List, [], ◌∷◌}
-use mir.Syntax.{Ty, ty_unit, Local, local, Body, skip, seq, assign, block, loop, cond, switch, exit, return, call}
+use mir.Syntax.{
+  Ty,
+  ty_unit,
+  Local,
+  local,
+  Body,
+  skip,
+  seq,
+  assign,
+  block,
+  loop,
+  cond,
+  switch,
+  exit,
+  return,
+  call,
+  unreachable,
+  call_v,
+  lend_static,
+}
 
 -- the type of local k
 abbrev pub ty_at : List Local → ℕ → Ty
@@ -28,3 +47,6 @@ after (suc n) (switch c arms) = skip
 after (suc n) (exit k) = skip
 after (suc n) return = skip
 after (suc n) (call f xs d) = skip
+after (suc n) unreachable = skip
+after (suc n) (call_v f σ xs d) = skip
+after (suc n) (lend_static p τ c) = skip

@@ -1,11 +1,11 @@
 -- A local array `[T; n]` that a walk owns, taken apart into its elements in memory, a row, and put together: between
--- the two it can be lent as a slice (`Loans.antt`, lend-own and back-own). Assumes `Logic`.
+-- the two it can be lent as a slice (`Loans.antt`'s `lend_own` and `back_own`). Assumes `Logic`.
 use mathlib.Core.Path.{◌≡◌, refl}
 use Prim.Native.Nat.{ℕ}
 use mathlib.Core.List.{List, [], ◌∷◌}
 use lib.ListN.{length}
 use seplogic.Ra.Ura.{Ura}
-use seplogic.Ra.TreeShare.{full_share}
+use base.Fraction.{full_share}
 use mir.Syntax.{ty_array}
 use mir.Val.{Val}
 use base.Logic.{ent, sep}

@@ -1,0 +1,42 @@
+use Rattle.engine.specs.LawsLentAdvance.{
+  advanced_answer,
+  advanced_rows,
+  advanced_crew,
+  advanced_versions,
+  advanced_results,
+}
+use Rattle.engine.proofs.lent.advancing.advance.Goals as goal
+
+pub returns : goal.returns
+returns c =
+    let numbers = c.args.numbers in
+    let rows = c.args.rows.now in
+    let crew = c.args.crew.now in
+    let party = c.args.party in
+    let log = c.args.log.now in
+    let records = c.args.records.now in
+    let newest = c.args.newest.now in
+    let versions = c.args.versions.now in
+    let results = c.args.results.now in
+    rw (
+      c.answer_of.ensures,
+      c.move_on.ensures.0,
+      c.move_on.ensures.1,
+      c.carry_out.ensures.0,
+      c.carry_out.ensures.1,
+      c.turn-turn.ensures,
+      c.are_wrong-wrong.ensures,
+      c.worker_at-worker.ensures,
+    ) (
+      advanced_answer numbers rows crew party log records newest versions results,
+      (
+        advanced_rows numbers rows crew party log records newest versions results,
+        (
+          advanced_crew numbers rows crew party log records newest versions results,
+          (
+            advanced_versions numbers rows crew party log records newest versions results,
+            advanced_results numbers rows crew party log records newest versions results,
+          ),
+        ),
+      ),
+    )
