@@ -1,9 +1,13 @@
-"""The parts of try-edits that need no prover: which edits there are, and what an edit's log says."""
+"""The parts of try-edits that need no prover: which edits there are, and what rt says of an edit."""
+import contextlib
 import importlib.machinery
 import importlib.util
+import io
+import os
 import tempfile
 import unittest
 from pathlib import Path
+from unittest import mock
 
 HERE = Path(__file__).resolve().parent
 LOADER = importlib.machinery.SourceFileLoader("try_edits", str(HERE / "try-edits"))
@@ -79,7 +83,9 @@ class Judged(unittest.TestCase):
         self.assertEqual(try_edits.SAID.match(line).groups()[:3], ("terms", "six_is_seven", "refused"))
 
 
-class Edits(unittest.TestCase):
+class Small(unittest.TestCase):
+    """a small repository"""
+
     def setUp(self):
         folder = tempfile.TemporaryDirectory()
         self.addCleanup(folder.cleanup)
@@ -91,6 +97,8 @@ class Edits(unittest.TestCase):
         (self.root / "tools/edits/low/second.edit").touch()
         (self.root / "tools/edits/high/third.edit").touch()
 
+
+class Edits(Small):
     def test_of_both_folders(self):
         self.assertEqual(list(try_edits.edits_of(self.root, "low")), ["first", "second"])
         self.assertEqual(try_edits.crates_with_edits(self.root), ["low", "high"])
@@ -121,6 +129,49 @@ class Edits(unittest.TestCase):
         try_edits.copy_with_edits(self.root, room, try_edits.chosen(self.root, ["low/first"]))
         self.assertFalse(list(room.glob("crates/*/out")))
         self.assertTrue((room / "HANDLES").exists())
+
+
+# A stand-in for rt: the crate high is not proved, and of the crates that are named it refuses each edit.
+RT = """#!/bin/sh
+if [ "$1" = check ]; then
+    case $PWD in */high) exit 1 ;; *) exit 0 ;; esac
+fi
+shift
+echo "rt: $*: begins with what a check kept"
+for crate; do
+    for edit in crates/"$crate"/must-fail/*.edit; do
+        echo "rt: must-fail $crate/${edit##*/}: refused, as it must be: ./src/lib.rt:1:1: error: no"
+    done
+done
+"""
+
+
+class Run(Small):
+    def told(self, *words):
+        """How it ends, and what it says."""
+        program = self.root / "bin" / "rt"
+        program.parent.mkdir()
+        program.write_text(RT)
+        program.chmod(0o755)
+        said = io.StringIO()
+        paths = {"PATH": f"{program.parent}:{os.environ['PATH']}"}
+        with mock.patch.object(try_edits, "ROOT", self.root), mock.patch.dict(os.environ, paths), \
+                contextlib.redirect_stdout(said), contextlib.redirect_stderr(io.StringIO()):
+            return try_edits.main(list(words)), said.getvalue().splitlines()
+
+    def test_edits_that_fail_by_a_fact(self):
+        self.assertEqual(self.told("low"), (0, [
+            "fact     low/first: src/lib.rt:1:1: no", "fact     low/second: src/lib.rt:1:1: no",
+            "2 of 2 edits fail by a fact"]))
+
+    def test_an_edit_of_a_crate_that_is_not_proved_is_not_tried(self):
+        self.assertEqual(self.told("low/first", "high"), (1, [
+            "fact     low/first: src/lib.rt:1:1: no", "untried  high/third: high is not proved",
+            "1 of 2 edits fail by a fact"]))
+
+    def test_no_crate_is_proved(self):
+        self.assertEqual(self.told("high"), (1, [
+            "untried  high/third: high is not proved", "0 of 1 edits fail by a fact"]))
 
 
 class Repository(unittest.TestCase):
