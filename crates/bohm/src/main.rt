@@ -2,11 +2,15 @@
 #![tactic(auto)]
 
 use program::{Setup, run_files};
+use std::io;
 
-fn main() {
-    run_files(Setup {
-        partitions: 2,
-        workers: 2,
-        quiet: false,
-    });
+fn main(rt: HostRuntime) -> io::Result<()> {
+    run_files(
+        &rt,
+        Setup {
+            partitions: 2,
+            workers: 2,
+            quiet: false,
+        },
+    )
 }

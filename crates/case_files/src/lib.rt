@@ -5,6 +5,7 @@
 ghost use Rattle.std.specs.Prelude.{◌+◌, ◌≤◌};
 
 use packed::{Action, ActionRow, Transaction};
+use std::io;
 
 fn action(kind: u8, r: u16, s: u16, c: u64) -> Action {
     match kind {
@@ -65,12 +66,11 @@ pub fn meaning(b: [u8; 71]) -> Transaction {
     }
 }
 
-pub fn print_text(bytes: &[u8]) {
-    io::write_all(1, bytes);
+pub fn print_text(rt: &impl Print, bytes: &[u8]) -> io::Result<()> {
+    rt.write_all(bytes)
 }
 
 // A space and a number.
-pub fn print_number(value: u64) {
-    print_text(b" ");
-    io::print_decimal(1, value);
+pub fn print_number(rt: &impl Print, value: u64) -> io::Result<()> {
+    print!(rt; " {value}")
 }

@@ -3,6 +3,9 @@
 
 use case_files::{print_number, print_text};
 use counters::{Decision, Outcome};
+use std::fs::File;
+use std::io;
+use std::io::Read;
 
 // A file holds at most this many cases.
 const MOST: usize = 1000000;
@@ -18,64 +21,71 @@ fn values(b: [u8; 32]) -> [u64; 4] {
 }
 
 // A space, and 1 for a mark that is set.
-fn print_mark(set: bool) {
+fn print_mark(rt: &impl Print, set: bool) -> io::Result<()> {
     if set {
-        print_number(1);
+        print_number(rt, 1)
     } else {
-        print_number(0);
+        print_number(rt, 0)
     }
 }
 
-fn print_outcome(outcome: Outcome) {
+fn print_outcome(rt: &impl Print, outcome: Outcome) -> io::Result<()> {
     match outcome {
-        Outcome::Committed => print_text(b"committed"),
-        Outcome::Aborted => print_text(b"aborted"),
+        Outcome::Committed => print_text(rt, b"committed"),
+        Outcome::Aborted => print_text(rt, b"aborted"),
     }
 }
 
 // A whole line: the outcome, the contents and the marks.
-fn print_line(decision: Decision) {
+fn print_line(rt: &impl Print, decision: Decision) -> io::Result<()> {
     let outcome = decision.outcome;
-    print_outcome(outcome);
+    print_outcome(rt, outcome)?;
     let contents = decision.contents;
-    print_number(contents[0]);
-    print_number(contents[1]);
-    print_number(contents[2]);
-    print_number(contents[3]);
-    print_text(b" :");
+    print_number(rt, contents[0])?;
+    print_number(rt, contents[1])?;
+    print_number(rt, contents[2])?;
+    print_number(rt, contents[3])?;
+    print_text(rt, b" :")?;
     let carried = decision.carried;
-    print_mark(carried[0]);
-    print_mark(carried[1]);
-    print_mark(carried[2]);
-    print_mark(carried[3]);
-    print_text(b"\n");
+    print_mark(rt, carried[0])?;
+    print_mark(rt, carried[1])?;
+    print_mark(rt, carried[2])?;
+    print_mark(rt, carried[3])?;
+    print_text(rt, b"\n")
 }
 
 // Runs the next case; false where the file has none.
-fn next_case(file: i32) -> bool {
+fn next_case(rt: &impl Print, file: &mut impl Read) -> io::Result<bool> {
     let mut meaning = [0u8; 71];
-    let got = io::read_full(file, &mut meaning);
+    let got = reads::fill(file, &mut meaning)?;
     if got < 71 {
-        return false;
+        return Ok(false);
     }
     let mut read = [0u8; 32];
-    let rest = io::read_full(file, &mut read);
+    let rest = reads::fill(file, &mut read)?;
     if rest < 32 {
-        return false;
+        return Ok(false);
     }
-    print_line(counters::decide(case_files::meaning(meaning), values(read)));
-    true
+    print_line(
+        rt,
+        counters::decide(case_files::meaning(meaning), values(read)),
+    )?;
+    Ok(true)
 }
 
-fn main() {
-    let file = os::open_read(b"cases.bin");
-    let mut left = MOST;
-    while 0 < left {
-        if next_case(file) {
-            left -= 1;
-        } else {
-            left = 0;
+fn all_cases(rt: &impl Print, file: &mut impl Read) -> io::Result<()> {
+    for _ in 0..MOST {
+        if !next_case(rt, file)? {
+            break;
         }
     }
-    libc::close(file);
+    Ok(())
+}
+
+// A missing file has no case.
+fn main(rt: HostRuntime) -> io::Result<()> {
+    match File::open(&rt, "cases.bin") {
+        Ok(mut file) => all_cases(&rt, &mut file),
+        Err(_) => Ok(()),
+    }
 }

@@ -3,18 +3,16 @@
 #![tactic(auto)]
 
 use case_files::{print_number, print_text};
-use program::{Part, Setup, load, run, whole};
+use program::{Part, Setup, close, load, run, whole};
+use std::fs::File;
+use std::io;
 
 // The number in the four bytes from a place on.
-fn number_at(file: Part, place: usize) -> usize {
+fn number_at(file: Part<&File>, place: usize) -> io::Result<usize> {
     let mut bytes = [0u8; 8];
-    let four = Part {
-        file: file.file,
-        start: place,
-        length: 4,
-    };
-    load(four, &mut bytes);
-    little::long(bytes) as usize
+    let mut four = part(file, place, 4);
+    load(&mut four, &mut bytes)?;
+    Ok(little::long(bytes) as usize)
 }
 
 // The place after some bytes; no file is longer than 2^62 bytes.
@@ -28,7 +26,7 @@ fn after(place: usize, length: usize) -> usize {
 }
 
 // The bytes of a file of a case.
-fn part(file: Part, start: usize, length: usize) -> Part {
+fn part(file: Part<&File>, start: usize, length: usize) -> Part<&File> {
     Part {
         file: file.file,
         start,
@@ -37,37 +35,51 @@ fn part(file: Part, start: usize, length: usize) -> Part {
 }
 
 // Runs the case that stands at a place, and answers the place of the next.
-fn case(file: Part, place: usize) -> usize {
-    let stored = part(file, after(place, 12), number_at(file, place));
-    let log = part(
+fn case(rt: &impl Print, file: Part<&File>, place: usize) -> io::Result<usize> {
+    let mut stored = part(file, after(place, 12), number_at(file, place)?);
+    let mut log = part(
         file,
         after(stored.start, stored.length),
-        number_at(file, after(place, 4)),
+        number_at(file, after(place, 4))?,
     );
-    let steps = part(
+    let mut steps = part(
         file,
         after(log.start, log.length),
-        number_at(file, after(place, 8)),
+        number_at(file, after(place, 8))?,
     );
     let setup = Setup {
         partitions: 2,
         workers: 2,
         quiet: false,
     };
-    run(setup, stored, log, steps);
-    after(steps.start, steps.length)
+    run(rt, setup, &mut stored, &mut log, &mut steps)?;
+    Ok(after(steps.start, steps.length))
 }
 
-fn main() {
-    let file = whole(b"cases.bin");
-    let count = number_at(file, 0);
+fn print_head(rt: &impl Print, k: usize) -> io::Result<()> {
+    print_text(rt, b"case")?;
+    print_number(rt, k as u64)?;
+    print_text(rt, b"\n")
+}
+
+fn all_cases(rt: &impl Print, file: Part<&File>) -> io::Result<()> {
+    let count = number_at(file, 0)?;
     let mut place: usize = 4;
-    let mut k: usize = 0;
-    while k < count {
-        print_text(b"case");
-        print_number(k as u64);
-        print_text(b"\n");
-        place = case(file, place);
-        k += 1;
+    for k in 0..count {
+        print_head(rt, k)?;
+        place = case(rt, file, place)?;
     }
+    Ok(())
+}
+
+fn main(rt: HostRuntime) -> io::Result<()> {
+    let file = whole(&rt, "cases.bin");
+    let shared = Part {
+        file: file.file.as_ref(),
+        start: file.start,
+        length: file.length,
+    };
+    all_cases(&rt, shared)?;
+    close(file);
+    Ok(())
 }

@@ -1,5 +1,5 @@
 -- A test over the numbers below a bound.
-use Rattle.std.specs.Prelude.{ℕ, zero, suc, Bool, true, false, ◌||◌}
+use Rattle.std.specs.Prelude.{ℕ, zero, suc, Bool, false, ◌||◌}
 
 -- it holds of some number below the bound
 unfoldable pub some_below : ℕ → (ℕ → Bool) → Bool

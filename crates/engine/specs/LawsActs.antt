@@ -1,5 +1,5 @@
 -- Laws of a worker's next act.
-use Rattle.std.specs.Prelude.{ℕ, ◌≤◌, Bool, true, false}
+use Rattle.std.specs.Prelude.{◌≤◌, Bool, true, false}
 use Rattle.std.proofs.Common.{arith}
 use Rattle.engine.specs.Acts.{one}
 

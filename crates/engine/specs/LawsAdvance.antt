@@ -1,5 +1,5 @@
 -- Laws of advancing: the way that the code goes.
-use Prim.Native.Nat.{ℕ, ◌+◌, ◌*◌}
+use Prim.Native.Nat.{ℕ, ◌*◌}
 use Rattle.std.specs.Prelude.{Bool, true, false, ◌≡◌, refl, length, get_or}
 use Rattle.std.proofs.Math.Bool.{cond}
 use mathlib.Core.List.{List, [], ◌∷◌}
@@ -9,7 +9,6 @@ use Rattle.terms.specs.Reserved.{no_slot}
 use Rattle.terms.specs.declared.refusal.Refusal.TheVariants.{BrokenTables}
 use Rattle.terms.specs.declared.refusal.Verdict.{Verdict}
 use Rattle.terms.specs.declared.refusal.Verdict.TheVariants.{Accepted as Passed, Refused as Fails}
-use Rattle.packed.specs.Unpacking.{unpack_at_of}
 use Rattle.packed.specs.declared.Transaction.{Transaction}
 use Rattle.packed.specs.declared.Unpacked.{Unpacked}
 use Rattle.counters.specs.Deciding.{decide_of}
@@ -19,7 +18,6 @@ use Rattle.versions.specs.Chain.{walk_of}
 use Rattle.versions.specs.LawsTable.{fill_past}
 use Rattle.versions.specs.Step.{fill_of}
 use Rattle.versions.specs.declared.Version.{Version}
-use Rattle.versions.specs.declared.chain.Walked.{Walked}
 use Rattle.versions.specs.declared.plan.Fill.{Fill as FillPlan}
 use Rattle.engine.specs.Acts.{unfit, act_of}
 use Rattle.engine.specs.Advance.{advance_verdict, seen_of, keeps, move_by, moved_state, answered_by, put_four}

@@ -1,9 +1,9 @@
 -- Laws of claiming.
-use Rattle.std.specs.Prelude.{ℕ, ◌<◌, Bool, false, ◌||◌, ◌≡◌, leb}
+use Rattle.std.specs.Prelude.{ℕ, ◌<◌, Bool, false, ◌≡◌, leb}
 use Rattle.std.proofs.Common.{sym, ◌∙◌, arith, leb-false}
 use Rattle.engine.specs.Claim.{no_such_claim}
 use Rattle.packed.specs.LawsForm.{not_left, not_right}
-use Rattle.engine.specs.LawsRange.{InRange, in_range}
+use Rattle.engine.specs.LawsRange.{in_range}
 use Rattle.engine.specs.Range.{out_of_range}
 use Rattle.engine.specs.declared.State.{State}
 

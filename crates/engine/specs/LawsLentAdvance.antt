@@ -1,7 +1,7 @@
 -- Laws of advancing with lent transactions and workers: the way that the code goes.
-use Rattle.std.specs.Prelude.{ℕ, zero, suc, ◌+◌, ◌*◌, ◌≤◌, Bool, true, false, ◌||◌, cond, List, [], ◌∷◌, ◌≡◌, leb, length, get_or, set}
+use Rattle.std.specs.Prelude.{ℕ, zero, suc, ◌*◌, Bool, true, false, ◌||◌, cond, List, [], ◌∷◌, ◌≡◌, leb, length, get_or, set}
 use Rattle.std.proofs.Math.Path.{refl, ap}
-use Rattle.std.proofs.Common.{sym, ◌∙◌, le_refl, arith, leb-false}
+use Rattle.std.proofs.Common.{◌∙◌, le_refl, arith, leb-false}
 use Rattle.terms.specs.Refusals.{refuse_if}
 use Rattle.terms.specs.declared.refusal.Refusal.TheVariants.{
   WrongParameter,
@@ -12,7 +12,6 @@ use Rattle.terms.specs.declared.refusal.Refusal.TheVariants.{
   StateOutOfRange,
 }
 use Rattle.terms.specs.declared.refusal.Verdict.{Verdict}
-use Rattle.terms.specs.declared.refusal.Verdict.TheVariants.{Accepted as Passed, Refused as Fails}
 use Rattle.versions.specs.LawsTable.{set_past}
 use Rattle.versions.specs.Step.{fill_of}
 use Rattle.versions.specs.declared.Version.{Version}

@@ -21,7 +21,6 @@ use Rattle.engine.specs.Moment.{not_running}
 use Rattle.engine.specs.Range.{no_worker, worker_at, row_at, worker_wrong, row_wrong, out_of_range}
 use Rattle.engine.specs.Rows.{row, is_unprocessed}
 use Rattle.engine.specs.Workers.{is_idle, idle_worker, claimed}
-use Rattle.engine.specs.declared.Answer.{Answer}
 use Rattle.engine.specs.declared.Answer.TheVariants.{Accepted, Refused}
 use Rattle.engine.specs.declared.Progress.TheVariants.{Executing}
 use Rattle.engine.specs.declared.Row.{Row}

@@ -1,5 +1,5 @@
 -- Laws of opening: the way that the code goes.
-use Rattle.std.specs.Prelude.{ℕ, zero, suc, ◌+◌, ◌-◌, ◌%◌, ◌/◌, ◌≤◌, ◌<◌, Bool, true, false, ◌||◌, not, List, [], ◌∷◌, ◌≡◌, ltb, eqb, length}
+use Rattle.std.specs.Prelude.{ℕ, suc, ◌+◌, ◌-◌, ◌%◌, ◌/◌, ◌≤◌, ◌<◌, false, ◌||◌, not, List, ◌≡◌, ltb, eqb, length}
 use Rattle.std.proofs.Math.Bool.{cond}
 use Rattle.std.proofs.Math.Path.{refl}
 use Rattle.std.proofs.Common.{sym, ap, ◌∙◌, add-one, arith, ltb-false}

@@ -1,5 +1,5 @@
 -- Laws of refusal 14.
-use Rattle.std.specs.Prelude.{ℕ, ◌+◌, ◌-◌, ◌≤◌, ◌<◌, Bool, true, false, ◌&&◌, ◌||◌, not, [], ◌∷◌, ◌≡◌, ltb, leb, eqb}
+use Rattle.std.specs.Prelude.{ℕ, ◌+◌, ◌-◌, ◌≤◌, ◌<◌, false, ◌&&◌, ◌||◌, not, [], ◌∷◌, ◌≡◌, ltb, leb, eqb}
 use Rattle.std.proofs.Math.Decide.{dec_lt}
 use Rattle.std.proofs.Common.{arith, lt-ltb, le-ltb, ltb-false, leb-false}
 use Rattle.packed.specs.LawsAccepted.{joined, none_of}

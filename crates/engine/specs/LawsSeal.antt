@@ -1,8 +1,8 @@
 -- Laws of the seal: the way that the code goes.
-use Rattle.std.specs.Prelude.{ℕ, ◌+◌, ◌*◌, Bool, true, false, List, ◌≡◌, length, replicate}
+use Rattle.std.specs.Prelude.{ℕ, ◌+◌, ◌*◌, Bool, List, ◌≡◌, length, replicate}
 use Rattle.std.proofs.Math.Bool.{cond}
 use Rattle.std.proofs.Math.Path.{refl}
-use Rattle.std.proofs.Common.{ap, ◌∙◌}
+use Rattle.std.proofs.Common.{◌∙◌}
 use Rattle.terms.specs.declared.refusal.Verdict.{Verdict}
 use Rattle.terms.specs.declared.refusal.Verdict.TheVariants.{Accepted, Refused}
 use Rattle.versions.specs.LawsSeal.{collect_off}

@@ -1,5 +1,5 @@
 -- Refusal 14: "the state has a number out of range".
-use Rattle.std.specs.Prelude.{ℕ, ◌+◌, Bool, true, false, ◌&&◌, ◌||◌, not, List, [], ◌∷◌, get_or, ltb, leb, eqb}
+use Rattle.std.specs.Prelude.{ℕ, ◌+◌, Bool, false, ◌&&◌, ◌||◌, not, [], get_or, ltb, leb, eqb}
 use Rattle.terms.specs.Reserved.{no_end}
 use Rattle.engine.specs.Counting.{some_below}
 use Rattle.engine.specs.Rows.{row, executing_by}

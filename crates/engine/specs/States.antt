@@ -1,5 +1,5 @@
 -- The state with one thing changed, and the fresh and the all-zero state.
-use Rattle.std.specs.Prelude.{ℕ, List, [], ◌∷◌, set, replicate}
+use Rattle.std.specs.Prelude.{ℕ, set, replicate}
 use Rattle.engine.specs.Rows.{row}
 use Rattle.engine.specs.Workers.{idle_worker}
 use Rattle.engine.specs.declared.Progress.TheVariants.{Unprocessed}

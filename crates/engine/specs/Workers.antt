@@ -1,5 +1,5 @@
 -- A worker alone.
-use Rattle.std.specs.Prelude.{ℕ, ◌+◌, Bool, true, false, ◌||◌, cond, List, [], ◌∷◌, ltb, set}
+use Rattle.std.specs.Prelude.{ℕ, ◌+◌, Bool, true, false, ◌||◌, cond, [], ◌∷◌, ltb, set}
 use Rattle.counters.specs.declared.Decision.{Decision}
 use Rattle.engine.specs.declared.Phase.{Phase}
 use Rattle.engine.specs.declared.Phase.TheVariants.{Idle, Reading, Decided}

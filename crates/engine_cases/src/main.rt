@@ -12,6 +12,9 @@ ghost use Rattle.std.specs.Prelude.{◌≡◌, ◌≤◌, length};
 
 use calls::Asked;
 use engine::State;
+use std::fs::File;
+use std::io;
+use std::io::Read;
 
 // A file holds at most this many cases.
 const MOST: usize = 1000000;
@@ -38,52 +41,67 @@ fn zeros() -> [u64; 70000]
 
 // The parts of a case are read one after the other, each into an array of its own, and lent on. The log follows.
 fn with_results(
-    file: i32,
+    rt: &impl Print,
+    file: &mut impl Read,
     state: State,
     asked: Asked,
     newest: &mut [u16],
     entries: &[u64],
     records: &mut [u64],
     results: &mut [u64],
-) {
+) -> io::Result<()> {
     let mut space = [0u8; 8192];
-    let length = read::log_length(file);
+    let length = read::log_length(file)?;
     let log = &mut space[..length];
-    io::read_full(file, log);
-    read::skip(file, length);
-    calls::call(state, asked, log, newest, entries, records, results);
+    reads::fill(file, log)?;
+    read::skip(file, length)?;
+    calls::call(rt, state, asked, log, newest, entries, records, results)
 }
 
 // The results follow.
 fn with_records(
-    file: i32,
+    rt: &impl Print,
+    file: &mut impl Read,
     state: State,
     asked: Asked,
     newest: &mut [u16],
     entries: &[u64],
     records: &mut [u64],
-) {
+) -> io::Result<()> {
     let mut space = zeros();
-    let length = shorter(read::next(file));
+    let length = shorter(read::next(file)?);
     let results = &mut space[..length];
-    read::numbers(file, results);
-    with_results(file, state, asked, newest, entries, records, results);
+    read::numbers(file, results)?;
+    with_results(rt, file, state, asked, newest, entries, records, results)
 }
 
 // The records follow.
-fn with_entries(file: i32, state: State, asked: Asked, newest: &mut [u16], entries: &[u64]) {
+fn with_entries(
+    rt: &impl Print,
+    file: &mut impl Read,
+    state: State,
+    asked: Asked,
+    newest: &mut [u16],
+    entries: &[u64],
+) -> io::Result<()> {
     let mut space = zeros();
-    let length = shorter(read::next(file));
+    let length = shorter(read::next(file)?);
     let records = &mut space[..length];
-    read::numbers(file, records);
-    with_records(file, state, asked, newest, entries, records);
+    read::numbers(file, records)?;
+    with_records(rt, file, state, asked, newest, entries, records)
 }
 
 // The entries of the version table follow.
-fn with_newest(file: i32, state: State, numbers: [u64; 5], newest: &mut [u16]) {
+fn with_newest(
+    rt: &impl Print,
+    file: &mut impl Read,
+    state: State,
+    numbers: [u64; 5],
+    newest: &mut [u16],
+) -> io::Result<()> {
     let mut entries = [0u64; 2048];
-    let length = read::next_size(file);
-    let count = read::versions(file, &mut entries);
+    let length = read::next_size(file)?;
+    let count = read::versions(file, &mut entries)?;
     let asked = Asked {
         call: numbers[0],
         first: numbers[1] as usize,
@@ -93,45 +111,50 @@ fn with_newest(file: i32, state: State, numbers: [u64; 5], newest: &mut [u16]) {
         length,
         count,
     };
-    with_entries(file, state, asked, newest, &entries);
+    with_entries(rt, file, state, asked, newest, &entries)
 }
 
 // A case whose call is read.
-fn case(file: i32, call: u64) {
-    let given = read::next_four(file);
-    let state = states::state(file);
+fn case(rt: &impl Print, file: &mut impl Read, call: u64) -> io::Result<()> {
+    let given = read::next_four(file)?;
+    let state = states::state(file)?;
     let mut space = no_slots();
-    let length = shorter(read::next(file));
+    let length = shorter(read::next(file)?);
     let newest = &mut space[..length];
-    read::slots(file, newest);
+    read::slots(file, newest)?;
     with_newest(
+        rt,
         file,
         state,
         [call, given[0], given[1], given[2], given[3]],
         newest,
-    );
+    )
 }
 
 // Runs the next case; false where the file has none.
-fn next_case(file: i32) -> bool {
+fn next_case(rt: &impl Print, file: &mut impl Read) -> io::Result<bool> {
     let mut head = [0u8; 8];
-    let got = io::read_full(file, &mut head);
+    let got = reads::fill(file, &mut head)?;
     if got < 8 {
-        return false;
+        return Ok(false);
     }
-    case(file, little::long(head));
-    true
+    case(rt, file, little::long(head))?;
+    Ok(true)
 }
 
-fn main() {
-    let file = os::open_read(b"cases.bin");
-    let mut left = MOST;
-    while 0 < left {
-        if next_case(file) {
-            left -= 1;
-        } else {
-            left = 0;
+fn all_cases(rt: &impl Print, file: &mut impl Read) -> io::Result<()> {
+    for _ in 0..MOST {
+        if !next_case(rt, file)? {
+            break;
         }
     }
-    libc::close(file);
+    Ok(())
+}
+
+// A missing file has no case.
+fn main(rt: HostRuntime) -> io::Result<()> {
+    match File::open(&rt, "cases.bin") {
+        Ok(mut file) => all_cases(&rt, &mut file),
+        Err(_) => Ok(()),
+    }
 }

@@ -4,32 +4,33 @@ ghost use Rattle.std.specs.Prelude.{◌≤◌};
 use case_files::{print_number, print_text};
 use counters::Outcome;
 use engine::{Answer, Phase, Progress, Row, State, Stepped, Worker};
+use std::io;
 use versions::Version;
 
-pub(crate) fn end_line() {
-    print_text(b"\n");
+pub(crate) fn end_line(rt: &impl Print) -> io::Result<()> {
+    print_text(rt, b"\n")
 }
 
-fn answer(answer: Answer) {
+fn answer(rt: &impl Print, answer: Answer) -> io::Result<()> {
     match answer {
-        Answer::Accepted => print_text(b"accepted"),
+        Answer::Accepted => print_text(rt, b"accepted")?,
         Answer::Waits(position) => {
-            print_text(b"waits");
-            print_number(position.0);
+            print_text(rt, b"waits")?;
+            print_number(rt, position.0)?;
         }
         Answer::Refused(refusal, place) => {
-            print_text(b"refused");
-            print_number(refusal.number() as u64);
-            print_text(b" at");
-            print_number(place.transaction as u64);
+            print_text(rt, b"refused")?;
+            print_number(rt, refusal.number() as u64)?;
+            print_text(rt, b" at")?;
+            print_number(rt, place.transaction as u64)?;
         }
     }
-    end_line();
+    end_line(rt)
 }
 
-fn indexed(index: usize, code: u64) {
-    print_number(index as u64);
-    print_number(code);
+fn indexed(rt: &impl Print, index: usize, code: u64) -> io::Result<()> {
+    print_number(rt, index as u64)?;
+    print_number(rt, code)
 }
 
 fn outcome_code(outcome: Outcome) -> u64
@@ -41,23 +42,21 @@ fn outcome_code(outcome: Outcome) -> u64
     }
 }
 
-fn row(index: usize, row: Row) {
+fn row(rt: &impl Print, index: usize, row: Row) -> io::Result<()> {
     let progress = row.progress;
     match progress {
-        Progress::Unprocessed => {}
-        Progress::Executing(worker) => indexed(index, worker as u64),
-        Progress::Complete(outcome) => indexed(index, 256 + outcome_code(outcome)),
+        Progress::Unprocessed => Ok(()),
+        Progress::Executing(worker) => indexed(rt, index, worker as u64),
+        Progress::Complete(outcome) => indexed(rt, index, 256 + outcome_code(outcome)),
     }
 }
 
-fn rows(rows: [Row; 64]) {
-    let mut i: usize = 0;
-    while i < 64 {
+fn rows(rt: &impl Print, rows: [Row; 64]) -> io::Result<()> {
+    for i in 0..64 {
         let own = rows[i];
-        row(i, own);
-        i += 1;
+        row(rt, i, own)?;
     }
-    print_number(64);
+    print_number(rt, 64)
 }
 
 fn is_zero(four: [u64; 4]) -> bool {
@@ -94,37 +93,38 @@ fn is_blank(worker: Worker) -> bool {
         & !has_mark(carried)
 }
 
-fn three(first: u8, second: u8, third: u8) {
-    print_number(first as u64);
-    print_number(second as u64);
-    print_number(third as u64);
+fn three(rt: &impl Print, first: u8, second: u8, third: u8) -> io::Result<()> {
+    print_number(rt, first as u64)?;
+    print_number(rt, second as u64)?;
+    print_number(rt, third as u64)
 }
 
-fn four(numbers: [u64; 4]) {
-    print_number(numbers[0]);
-    print_number(numbers[1]);
-    print_number(numbers[2]);
-    print_number(numbers[3]);
+fn four(rt: &impl Print, numbers: [u64; 4]) -> io::Result<()> {
+    print_number(rt, numbers[0])?;
+    print_number(rt, numbers[1])?;
+    print_number(rt, numbers[2])?;
+    print_number(rt, numbers[3])
 }
 
-pub(crate) fn mark(set: bool) {
+pub(crate) fn mark(rt: &impl Print, set: bool) -> io::Result<()> {
     if set {
-        print_number(1);
+        print_number(rt, 1)?;
     } else {
-        print_number(0);
+        print_number(rt, 0)?;
     }
+    Ok(())
 }
 
 // Phase, transaction, outcome and the three counts.
-fn phase(phase: Phase, transaction: u8) {
+fn phase(rt: &impl Print, phase: Phase, transaction: u8) -> io::Result<()> {
     match phase {
         Phase::Idle => {
-            three(0, transaction, 0);
-            three(0, 0, 0);
+            three(rt, 0, transaction, 0)?;
+            three(rt, 0, 0, 0)?;
         }
         Phase::Reading { values } => {
-            three(1, transaction, 0);
-            three(values, 0, 0);
+            three(rt, 1, transaction, 0)?;
+            three(rt, values, 0, 0)?;
         }
         Phase::Decided {
             outcome,
@@ -132,134 +132,132 @@ fn phase(phase: Phase, transaction: u8) {
             carries,
             fills,
         } => {
-            print_number(2);
-            print_number(transaction as u64);
-            print_number(outcome_code(outcome));
-            three(values, carries, fills);
+            print_number(rt, 2)?;
+            print_number(rt, transaction as u64)?;
+            print_number(rt, outcome_code(outcome))?;
+            three(rt, values, carries, fills)?;
         }
     }
+    Ok(())
 }
 
-fn worker(index: usize, worker: Worker) {
+fn worker(rt: &impl Print, index: usize, worker: Worker) -> io::Result<()> {
     if !is_blank(worker) {
-        print_number(index as u64);
+        print_number(rt, index as u64)?;
         let work = worker.phase;
-        phase(work, worker.transaction);
+        phase(rt, work, worker.transaction)?;
         let values = worker.values;
-        four(values);
+        four(rt, values)?;
         let contents = worker.contents;
-        four(contents);
+        four(rt, contents)?;
         let carried = worker.carried;
-        mark(carried[0]);
-        mark(carried[1]);
-        mark(carried[2]);
-        mark(carried[3]);
+        mark(rt, carried[0])?;
+        mark(rt, carried[1])?;
+        mark(rt, carried[2])?;
+        mark(rt, carried[3])?;
     }
+    Ok(())
 }
 
-fn crew(crew: [Worker; 8]) {
-    let mut i: usize = 0;
-    while i < 8 {
+fn crew(rt: &impl Print, crew: [Worker; 8]) -> io::Result<()> {
+    for i in 0..8 {
         let own = crew[i];
-        worker(i, own);
-        i += 1;
+        worker(rt, i, own)?;
     }
-    print_number(8);
+    print_number(rt, 8)
 }
 
-fn placed(placed: [u8; 8]) {
-    let mut i: usize = 0;
-    while i < 8 {
-        print_number(placed[i] as u64);
-        i += 1;
+fn placed(rt: &impl Print, placed: [u8; 8]) -> io::Result<()> {
+    for i in 0..8 {
+        print_number(rt, placed[i] as u64)?;
     }
+    Ok(())
 }
 
-fn state(state: State) {
-    print_text(b"state");
-    print_number(state.records as u64);
-    print_number(state.partitions as u64);
-    print_number(state.workers as u64);
-    print_number(state.next.0);
-    print_number(state.size as u64);
-    print_number(state.batch.0);
+fn state(rt: &impl Print, state: State) -> io::Result<()> {
+    print_text(rt, b"state")?;
+    print_number(rt, state.records as u64)?;
+    print_number(rt, state.partitions as u64)?;
+    print_number(rt, state.workers as u64)?;
+    print_number(rt, state.next.0)?;
+    print_number(rt, state.size as u64)?;
+    print_number(rt, state.batch.0)?;
     let counts = state.placed;
-    placed(counts);
+    placed(rt, counts)?;
     let transactions = state.rows;
-    rows(transactions);
+    rows(rt, transactions)?;
     let work = state.crew;
-    crew(work);
-    end_line();
+    crew(rt, work)?;
+    end_line(rt)
 }
 
-fn slot(index: usize, slot: u16) {
+fn slot(rt: &impl Print, index: usize, slot: u16) -> io::Result<()> {
     if !terms::is_no_slot(slot) {
-        indexed(index, slot as u64);
+        indexed(rt, index, slot as u64)?;
     }
+    Ok(())
 }
 
-fn newest(table: &[u16]) {
-    print_text(b"newest");
-    print_number(table.len() as u64);
-    let mut i: usize = 0;
-    while i < table.len() {
-        slot(i, table[i]);
-        i += 1;
+fn newest(rt: &impl Print, table: &[u16]) -> io::Result<()> {
+    print_text(rt, b"newest")?;
+    print_number(rt, table.len() as u64)?;
+    for i in 0..table.len() {
+        slot(rt, i, table[i])?;
     }
-    end_line();
+    end_line(rt)
 }
 
-fn number(index: usize, number: u64) {
+fn number(rt: &impl Print, index: usize, number: u64) -> io::Result<()> {
     if number != 0 {
-        indexed(index, number);
+        indexed(rt, index, number)?;
     }
+    Ok(())
 }
 
-fn numbers(table: &[u64]) {
-    print_number(table.len() as u64);
-    let mut i: usize = 0;
-    while i < table.len() {
-        number(i, table[i]);
-        i += 1;
+fn numbers(rt: &impl Print, table: &[u64]) -> io::Result<()> {
+    print_number(rt, table.len() as u64)?;
+    for i in 0..table.len() {
+        number(rt, i, table[i])?;
     }
-    end_line();
+    end_line(rt)
 }
 
 // What stands before the line of the version table.
-pub(crate) fn before(stepped: Stepped, table: &[u16]) {
+pub(crate) fn before(rt: &impl Print, stepped: Stepped, table: &[u16]) -> io::Result<()> {
     let said = stepped.answer;
-    answer(said);
+    answer(rt, said)?;
     let after = stepped.state;
-    state(after);
-    newest(table);
+    state(rt, after)?;
+    newest(rt, table)
 }
 
-pub(crate) fn begin_versions(length: usize) {
-    print_text(b"versions");
-    print_number(length as u64);
+pub(crate) fn begin_versions(rt: &impl Print, length: usize) -> io::Result<()> {
+    print_text(rt, b"versions")?;
+    print_number(rt, length as u64)
 }
 
 // An entry that is not the empty one.
-pub(crate) fn version(slot: usize, version: Version) {
+pub(crate) fn version(rt: &impl Print, slot: usize, version: Version) -> io::Result<()> {
     let none = (version.begin == 0)
         & (version.end == 0)
         & terms::is_no_slot(version.previous)
         & (version.contents == 0)
         & !version.produced;
     if !none {
-        indexed(slot, version.begin);
-        print_number(version.end);
-        print_number(version.previous as u64);
-        print_number(version.contents);
-        mark(version.produced);
+        indexed(rt, slot, version.begin)?;
+        print_number(rt, version.end)?;
+        print_number(rt, version.previous as u64)?;
+        print_number(rt, version.contents)?;
+        mark(rt, version.produced)?;
     }
+    Ok(())
 }
 
 // What stands after the line of the version table.
-pub(crate) fn behind(records: &[u64], results: &[u64]) {
-    end_line();
-    print_text(b"records");
-    numbers(records);
-    print_text(b"results");
-    numbers(results);
+pub(crate) fn behind(rt: &impl Print, records: &[u64], results: &[u64]) -> io::Result<()> {
+    end_line(rt)?;
+    print_text(rt, b"records")?;
+    numbers(rt, records)?;
+    print_text(rt, b"results")?;
+    numbers(rt, results)
 }

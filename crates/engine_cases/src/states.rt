@@ -2,6 +2,8 @@
 use crate::read::{next, next_byte, next_four, next_mark, next_word};
 use counters::Outcome;
 use engine::{Phase, Progress, Row, State, Worker};
+use std::io;
+use std::io::Read;
 use terms::{BatchNumber, Position};
 
 // "the worker's number 0 to 255 for Executing, 256 for Complete and committed, 257 for Complete and aborted"
@@ -20,21 +22,18 @@ fn row(code: u64) -> Row {
     Row { progress }
 }
 
-fn rows(file: i32) -> [Row; 64] {
+// The rows that the file names; any other number ends them.
+fn rows(file: &mut impl Read) -> io::Result<[Row; 64]> {
     let progress = Progress::Unprocessed;
     let mut rows = [Row { progress }; 64];
-    let mut left: usize = 65;
-    while 0 < left {
-        let index = next(file);
-        if index < 64 {
-            let row = row(next(file));
-            rows[index as usize] = row;
-            left -= 1;
-        } else {
-            left = 0;
+    for _ in 0..65 {
+        let index = next(file)?;
+        if index >= 64 {
+            break;
         }
+        rows[index as usize] = row(next(file)?);
     }
-    rows
+    Ok(rows)
 }
 
 fn outcome(code: u64) -> Outcome {
@@ -60,33 +59,33 @@ fn phase(code: u64, outcome: Outcome, values: u8, carries: u8, fills: u8) -> Pha
     }
 }
 
-fn marks(file: i32) -> [bool; 4] {
-    [
-        next_mark(file),
-        next_mark(file),
-        next_mark(file),
-        next_mark(file),
-    ]
+fn marks(file: &mut impl Read) -> io::Result<[bool; 4]> {
+    Ok([
+        next_mark(file)?,
+        next_mark(file)?,
+        next_mark(file)?,
+        next_mark(file)?,
+    ])
 }
 
-fn worker(file: i32) -> Worker {
-    let code = next(file);
-    let transaction = next_byte(file);
-    let outcome = outcome(next(file));
-    let read = next_byte(file);
-    let carries = next_byte(file);
-    let fills = next_byte(file);
+fn worker(file: &mut impl Read) -> io::Result<Worker> {
+    let code = next(file)?;
+    let transaction = next_byte(file)?;
+    let outcome = outcome(next(file)?);
+    let read = next_byte(file)?;
+    let carries = next_byte(file)?;
+    let fills = next_byte(file)?;
     let phase = phase(code, outcome, read, carries, fills);
-    let values = next_four(file);
-    let contents = next_four(file);
-    let carried = marks(file);
-    Worker {
+    let values = next_four(file)?;
+    let contents = next_four(file)?;
+    let carried = marks(file)?;
+    Ok(Worker {
         phase,
         transaction,
         values,
         contents,
         carried,
-    }
+    })
 }
 
 // The all-zero idle worker.
@@ -100,48 +99,45 @@ fn idle() -> Worker {
     }
 }
 
-fn crew(file: i32) -> [Worker; 8] {
+// The workers that the file names; any other number ends them.
+fn crew(file: &mut impl Read) -> io::Result<[Worker; 8]> {
     let none = idle();
     let mut crew = [none; 8];
-    let mut left: usize = 9;
-    while 0 < left {
-        let index = next(file);
-        if index < 8 {
-            let worker = worker(file);
-            crew[index as usize] = worker;
-            left -= 1;
-        } else {
-            left = 0;
+    for _ in 0..9 {
+        let index = next(file)?;
+        if index >= 8 {
+            break;
         }
+        crew[index as usize] = worker(file)?;
     }
-    crew
+    Ok(crew)
 }
 
-fn placed(file: i32) -> [u8; 8] {
-    [
-        next_byte(file),
-        next_byte(file),
-        next_byte(file),
-        next_byte(file),
-        next_byte(file),
-        next_byte(file),
-        next_byte(file),
-        next_byte(file),
-    ]
+fn placed(file: &mut impl Read) -> io::Result<[u8; 8]> {
+    Ok([
+        next_byte(file)?,
+        next_byte(file)?,
+        next_byte(file)?,
+        next_byte(file)?,
+        next_byte(file)?,
+        next_byte(file)?,
+        next_byte(file)?,
+        next_byte(file)?,
+    ])
 }
 
 // The state that follows in the file.
-pub(crate) fn state(file: i32) -> State {
-    let records = next_word(file);
-    let partitions = next_byte(file);
-    let workers = next_byte(file);
-    let first = next(file);
-    let size = next_byte(file);
-    let sealed = next(file);
-    let placed = placed(file);
-    let rows = rows(file);
-    let crew = crew(file);
-    State {
+pub(crate) fn state(file: &mut impl Read) -> io::Result<State> {
+    let records = next_word(file)?;
+    let partitions = next_byte(file)?;
+    let workers = next_byte(file)?;
+    let first = next(file)?;
+    let size = next_byte(file)?;
+    let sealed = next(file)?;
+    let placed = placed(file)?;
+    let rows = rows(file)?;
+    let crew = crew(file)?;
+    Ok(State {
         records,
         partitions,
         workers,
@@ -151,5 +147,5 @@ pub(crate) fn state(file: i32) -> State {
         placed,
         rows,
         crew,
-    }
+    })
 }

@@ -3,6 +3,7 @@
 use crate::calls::Asked;
 use crate::{print, read};
 use engine::{State, Stepped};
+use std::io;
 use versions::{Version, empty, entry_at, put_at};
 
 // The slot of an entry, as the case file has it.
@@ -29,23 +30,20 @@ pub(crate) fn version_in(entries: &[u64], k: usize) -> Version {
 
 // Puts so many entries into the table.
 pub(crate) fn load(versions: &mut [Version], entries: &[u64], count: usize) {
-    let mut k: usize = 0;
-    while k < count {
+    for k in 0..count {
         let slot = slot_in(entries, k);
         let version = version_in(entries, k);
         put_at(versions, slot, version);
-        k = k + 1;
     }
 }
 
-pub(crate) fn show(versions: &[Version]) {
-    print::begin_versions(versions.len());
-    let mut slot: usize = 0;
-    while slot < versions.len() {
+pub(crate) fn show(rt: &impl Print, versions: &[Version]) -> io::Result<()> {
+    print::begin_versions(rt, versions.len())?;
+    for slot in 0..versions.len() {
         let version = entry_at(versions, slot);
-        print::version(slot, version);
-        slot = slot + 1;
+        print::version(rt, slot, version)?;
     }
+    Ok(())
 }
 
 // Opening or placing.
@@ -97,19 +95,21 @@ pub(crate) fn step(
 
 // Prints what is after the call.
 pub(crate) fn finish(
+    rt: &impl Print,
     stepped: Stepped,
     newest: &[u16],
     versions: &[Version],
     records: &[u64],
     results: &[u64],
-) {
-    print::before(stepped, newest);
-    show(versions);
-    print::behind(records, results);
+) -> io::Result<()> {
+    print::before(rt, stepped, newest)?;
+    show(rt, versions)?;
+    print::behind(rt, records, results)
 }
 
 // Makes the call and prints what is after it.
 pub(crate) fn act(
+    rt: &impl Print,
     state: State,
     asked: Asked,
     log: &[u8],
@@ -117,13 +117,14 @@ pub(crate) fn act(
     versions: &mut [Version],
     records: &mut [u64],
     results: &mut [u64],
-) {
+) -> io::Result<()> {
     let stepped = step(state, asked, log, newest, versions, records, results);
-    finish(stepped, newest, versions, records, results);
+    finish(rt, stepped, newest, versions, records, results)
 }
 
 // Loads the version table, and goes on.
 pub(crate) fn run(
+    rt: &impl Print,
     state: State,
     asked: Asked,
     log: &[u8],
@@ -132,14 +133,15 @@ pub(crate) fn run(
     versions: &mut [Version],
     records: &mut [u64],
     results: &mut [u64],
-) {
+) -> io::Result<()> {
     load(versions, entries, asked.count);
-    act(state, asked, log, newest, versions, records, results);
+    act(rt, state, asked, log, newest, versions, records, results)
 }
 
 // The table is a local array, whose length stands in the code: a function for each length that the cases have. This one
 // is the right length.
 pub(crate) fn exact(
+    rt: &impl Print,
     state: State,
     asked: Asked,
     log: &[u8],
@@ -147,10 +149,11 @@ pub(crate) fn exact(
     entries: &[u64],
     records: &mut [u64],
     results: &mut [u64],
-) {
+) -> io::Result<()> {
     let version = empty();
     let mut versions = [version; 256];
     run(
+        rt,
         state,
         asked,
         log,
@@ -159,11 +162,12 @@ pub(crate) fn exact(
         &mut versions,
         records,
         results,
-    );
+    )
 }
 
 // Far too long.
 pub(crate) fn long(
+    rt: &impl Print,
     state: State,
     asked: Asked,
     log: &[u8],
@@ -171,10 +175,11 @@ pub(crate) fn long(
     entries: &[u64],
     records: &mut [u64],
     results: &mut [u64],
-) {
+) -> io::Result<()> {
     let version = empty();
     let mut versions = [version; 70000];
     run(
+        rt,
         state,
         asked,
         log,
@@ -183,5 +188,5 @@ pub(crate) fn long(
         &mut versions,
         records,
         results,
-    );
+    )
 }

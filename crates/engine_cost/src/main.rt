@@ -4,30 +4,32 @@
 #![tactic(auto)]
 
 use program::{Setup, close, load, run_files, whole};
+use std::io;
+use std::rt::Files;
 
 fn wide(byte: u8) -> usize {
     byte as usize
 }
 
-fn setup() -> Setup {
-    let file = whole(b"setup.bin");
+fn setup(rt: &impl Files) -> io::Result<Setup> {
+    let mut file = whole(rt, "setup.bin");
     let mut bytes = [0u8; 3];
-    let got = load(file, &mut bytes);
+    let got = load(&mut file, &mut bytes)?;
     close(file);
     if got < 2 {
-        return Setup {
+        return Ok(Setup {
             partitions: 2,
             workers: 2,
             quiet: false,
-        };
+        });
     }
-    Setup {
+    Ok(Setup {
         partitions: wide(bytes[0]),
         workers: wide(bytes[1]),
         quiet: bytes[2] != 0,
-    }
+    })
 }
 
-fn main() {
-    run_files(setup());
+fn main(rt: HostRuntime) -> io::Result<()> {
+    run_files(&rt, setup(&rt)?)
 }

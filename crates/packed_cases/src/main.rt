@@ -7,7 +7,11 @@ mod print;
 
 ghost use Rattle.std.specs.Prelude.{◌≡◌, length};
 
+use case_files::print_text;
 use cases::Asked;
+use std::fs::File;
+use std::io;
+use std::io::Read;
 
 // A file holds at most this many cases.
 const MOST: usize = 1000000;
@@ -19,79 +23,98 @@ fn room() -> [u8; 65536]
     [170; 65536]
 }
 
-fn unpack_case(bytes: &[u8], asked: Asked) {
-    io::write_all(1, b"unpack ");
-    print::unpacked(packed::unpack(bytes, asked.n));
+fn unpack_case(rt: &impl Print, bytes: &[u8], asked: Asked) -> io::Result<()> {
+    print_text(rt, b"unpack ")?;
+    print::unpacked(rt, packed::unpack(bytes, asked.n))
 }
 
-fn entry_case(log: &[u8], asked: Asked) {
-    io::write_all(1, b"entry ");
-    print::unpacked(packed::unpack_at(log, asked.index, asked.n));
+fn entry_case(rt: &impl Print, log: &[u8], asked: Asked) -> io::Result<()> {
+    print_text(rt, b"entry ")?;
+    print::unpacked(rt, packed::unpack_at(log, asked.index, asked.n))
 }
 
-fn pack_case(meaning: packed::Transaction, buffer: &mut [u8], asked: Asked) {
-    io::write_all(1, b"pack ");
-    print::verdict(packed::pack(meaning, asked.n, buffer));
-    io::write_all(1, b" ");
-    print::hex(buffer);
-    io::write_all(1, b"\n");
+fn pack_case(
+    rt: &impl Print,
+    meaning: packed::Transaction,
+    buffer: &mut [u8],
+    asked: Asked,
+) -> io::Result<()> {
+    print_text(rt, b"pack ")?;
+    print::verdict(rt, packed::pack(meaning, asked.n, buffer))?;
+    print_text(rt, b" ")?;
+    print::hex(rt, buffer)?;
+    print_text(rt, b"\n")
 }
 
 // A case that lends bytes: they follow its head.
-fn lent_case(file: i32, lent: &mut [u8], asked: Asked) -> bool {
-    let got = io::read_full(file, lent);
+fn lent_case(
+    rt: &impl Print,
+    file: &mut impl Read,
+    lent: &mut [u8],
+    asked: Asked,
+) -> io::Result<bool> {
+    let got = reads::fill(file, lent)?;
     if got < lent.len() {
-        return false;
+        return Ok(false);
     }
     if asked.what == 1 {
-        unpack_case(lent, asked);
+        unpack_case(rt, lent, asked)?;
     } else {
-        entry_case(lent, asked);
+        entry_case(rt, lent, asked)?;
     }
-    true
+    Ok(true)
 }
 
 // A case that packs: a meaning follows its head, and it lends a buffer.
-fn meaning_case(file: i32, lent: &mut [u8], asked: Asked) -> bool {
+fn meaning_case(
+    rt: &impl Print,
+    file: &mut impl Read,
+    lent: &mut [u8],
+    asked: Asked,
+) -> io::Result<bool> {
     let mut bytes = [0u8; 71];
-    let got = io::read_full(file, &mut bytes);
+    let got = reads::fill(file, &mut bytes)?;
     if got < 71 {
-        return false;
+        return Ok(false);
     }
-    pack_case(case_files::meaning(bytes), lent, asked);
-    true
+    pack_case(rt, case_files::meaning(bytes), lent, asked)?;
+    Ok(true)
 }
 
-fn case(file: i32, lent: &mut [u8], asked: Asked) -> bool {
+fn case(rt: &impl Print, file: &mut impl Read, lent: &mut [u8], asked: Asked) -> io::Result<bool> {
     if asked.what == 2 {
-        meaning_case(file, lent, asked)
+        meaning_case(rt, file, lent, asked)
     } else {
-        lent_case(file, lent, asked)
+        lent_case(rt, file, lent, asked)
     }
 }
 
 // Runs the next case; false where the file has none.
-fn next_case(file: i32) -> bool {
+fn next_case(rt: &impl Print, file: &mut impl Read) -> io::Result<bool> {
     let mut head = [0u8; 19];
-    let got = io::read_full(file, &mut head);
+    let got = reads::fill(file, &mut head)?;
     if got < 19 {
-        return false;
+        return Ok(false);
     }
     let asked = cases::head_of(head);
     let mut space = room();
     let length = asked.length as usize;
-    case(file, &mut space[..length], asked)
+    case(rt, file, &mut space[..length], asked)
 }
 
-fn main() {
-    let file = os::open_read(b"cases.bin");
-    let mut left = MOST;
-    while 0 < left {
-        if next_case(file) {
-            left -= 1;
-        } else {
-            left = 0;
+fn all_cases(rt: &impl Print, file: &mut impl Read) -> io::Result<()> {
+    for _ in 0..MOST {
+        if !next_case(rt, file)? {
+            break;
         }
     }
-    libc::close(file);
+    Ok(())
+}
+
+// A missing file has no case.
+fn main(rt: HostRuntime) -> io::Result<()> {
+    match File::open(&rt, "cases.bin") {
+        Ok(mut file) => all_cases(&rt, &mut file),
+        Err(_) => Ok(()),
+    }
 }

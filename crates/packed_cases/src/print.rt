@@ -1,82 +1,83 @@
 // The answers as lines.
 use case_files::{print_number, print_text};
 use packed::{Action, ActionRow, Unpacked};
+use std::io;
 use terms::Verdict;
 
 // The answer, the paper's number and the place.
-pub(crate) fn verdict(v: Verdict) {
+pub(crate) fn verdict(rt: &impl Print, v: Verdict) -> io::Result<()> {
     match v {
-        Verdict::Accepted => print_text(b"accepted"),
-        Verdict::Refused(_, _) => print_text(b"refused"),
+        Verdict::Accepted => print_text(rt, b"accepted")?,
+        Verdict::Refused(_, _) => print_text(rt, b"refused")?,
     }
-    print_number(v.number() as u64);
-    print_number(v.place() as u64);
+    print_number(rt, v.number() as u64)?;
+    print_number(rt, v.place() as u64)
 }
 
-fn set(records: [u16; 4]) {
-    print_text(b" :");
-    print_number(records[0] as u64);
-    print_number(records[1] as u64);
-    print_number(records[2] as u64);
-    print_number(records[3] as u64);
+fn set(rt: &impl Print, records: [u16; 4]) -> io::Result<()> {
+    print_text(rt, b" :")?;
+    print_number(rt, records[0] as u64)?;
+    print_number(rt, records[1] as u64)?;
+    print_number(rt, records[2] as u64)?;
+    print_number(rt, records[3] as u64)
 }
 
-fn named(name: &[u8], first: u16, second: u64) {
-    print_text(name);
-    print_number(first as u64);
-    print_number(second);
+fn named(rt: &impl Print, name: &[u8], first: u16, second: u64) -> io::Result<()> {
+    print_text(rt, name)?;
+    print_number(rt, first as u64)?;
+    print_number(rt, second)
 }
 
-fn row(x: ActionRow) {
-    print_text(b" : ");
+fn row(rt: &impl Print, x: ActionRow) -> io::Result<()> {
+    print_text(rt, b" : ")?;
     let action = x.action;
     match action {
-        Action::Nothing => print_text(b"nothing"),
-        Action::Set { r, c } => named(b"set", r, c),
-        Action::Add { r, c } => named(b"add", r, c),
-        Action::Take { r, c } => named(b"take", r, c),
-        Action::Copy { r, s } => named(b"copy", r, s as u64),
-        Action::Move { r, s } => named(b"move", r, s as u64),
-        Action::Floor { r, c } => named(b"floor", r, c),
+        Action::Nothing => print_text(rt, b"nothing"),
+        Action::Set { r, c } => named(rt, b"set", r, c),
+        Action::Add { r, c } => named(rt, b"add", r, c),
+        Action::Take { r, c } => named(rt, b"take", r, c),
+        Action::Copy { r, s } => named(rt, b"copy", r, s as u64),
+        Action::Move { r, s } => named(rt, b"move", r, s as u64),
+        Action::Floor { r, c } => named(rt, b"floor", r, c),
     }
 }
 
 // A whole line: the verdict and the meaning.
-pub(crate) fn unpacked(u: Unpacked) {
+pub(crate) fn unpacked(rt: &impl Print, u: Unpacked) -> io::Result<()> {
     let v = u.verdict;
-    verdict(v);
+    verdict(rt, v)?;
     let m = u.meaning;
-    print_number(m.readcount as u64);
-    print_number(m.writecount as u64);
-    print_number(m.actioncount as u64);
+    print_number(rt, m.readcount as u64)?;
+    print_number(rt, m.writecount as u64)?;
+    print_number(rt, m.actioncount as u64)?;
     let reads = m.reads;
-    set(reads);
+    set(rt, reads)?;
     let writes = m.writes;
-    set(writes);
+    set(rt, writes)?;
     let actions = m.actions;
-    row(actions[0]);
-    row(actions[1]);
-    row(actions[2]);
-    row(actions[3]);
-    print_text(b"\n");
+    row(rt, actions[0])?;
+    row(rt, actions[1])?;
+    row(rt, actions[2])?;
+    row(rt, actions[3])?;
+    print_text(rt, b"\n")
 }
 
-fn byte(value: u8) {
-    io::print_hex(1, value as u64, 2);
+fn byte(rt: &impl Print, value: u8) -> io::Result<()> {
+    print!(rt; "{value:02x}")
 }
 
-fn dash_if(none: bool) {
+fn dash_if(rt: &impl Print, none: bool) -> io::Result<()> {
     if none {
-        print_text(b"-");
+        print_text(rt, b"-")?;
     }
+    Ok(())
 }
 
 // The bytes in hexadecimal, and a dash for none.
-pub(crate) fn hex(bytes: &[u8]) {
-    dash_if(bytes.len() == 0);
-    let mut k = 0;
-    while k < bytes.len() {
-        byte(bytes[k]);
-        k += 1;
+pub(crate) fn hex(rt: &impl Print, bytes: &[u8]) -> io::Result<()> {
+    dash_if(rt, bytes.is_empty())?;
+    for value in bytes {
+        byte(rt, *value)?;
     }
+    Ok(())
 }

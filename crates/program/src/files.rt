@@ -1,65 +1,65 @@
 // What the program reads. "A missing file counts as empty."
-ghost use Rattle.std.specs.Prelude.{◌≤◌, length};
+ghost use Rattle.std.specs.Prelude.{◌≤◌, length, IfOk};
 
 use crate::Part;
-
-// A descriptor as a number; past every descriptor where there is none.
-fn number_of(file: i32) -> usize {
-    if file > 0 {
-        file as usize
-    } else {
-        if file == 0 { 0 } else { 2147483648 }
-    }
-}
-
-fn descriptor(file: usize) -> i32 {
-    if file < 2147483648 { file as i32 } else { -1 }
-}
-
-fn size_of(length: i64) -> usize {
-    if length > 0 { length as usize } else { 0 }
-}
+use std::fs::File;
+use std::io;
+use std::io::{Read, Seek, SeekFrom};
+use std::rt::Files;
 
 // How long a file is; 0 where not even a first byte can be read.
-fn size_in(file: i32) -> usize {
+fn size_in<F: Read + Seek>(file: &mut F) -> usize {
     let mut first = [0u8; 1];
-    let got = io::read_full(file, &mut first);
-    let end: i32 = 2;
-    let length = libc::lseek(file, 0, end);
+    let got = reads::fill(file, &mut first).unwrap_or(0);
+    let length = file.seek(SeekFrom::End(0)).unwrap_or(0);
     if got < 1 {
         return 0;
     }
-    size_of(length)
+    length as usize
 }
 
-// All of a file.
-pub fn whole(name: &[u8]) -> Part {
-    let file = os::open_read(name);
-    let length = size_in(file);
+// All of an open file.
+fn all_of<F: Read + Seek>(mut file: F) -> Part<F> {
+    let length = size_in(&mut file);
     Part {
-        file: number_of(file),
+        file: Some(file),
         start: 0,
         length,
     }
 }
 
-pub fn close(part: Part) {
-    libc::close(descriptor(part.file));
+// All of a file; nothing where it cannot be opened.
+pub fn whole<R: Files>(rt: &R, name: &str) -> Part<R::File> {
+    match File::open(rt, name) {
+        Ok(file) => all_of(file),
+        Err(_) => Part {
+            file: None,
+            start: 0,
+            length: 0,
+        },
+    }
+}
+
+pub fn close<F: Drop>(part: Part<F>) {
+    drop(part);
 }
 
 // A place in a file that is surely below 2^63.
-fn place_of(start: usize) -> i64 {
+fn place_of(start: usize) -> u64 {
     if start < 9223372036854775808 {
-        start as i64
+        start as u64
     } else {
         0
     }
 }
 
-// The file of a part, to be read on from where the part starts.
-pub(crate) fn at_start(part: Part) -> usize {
-    libc::lseek(descriptor(part.file), place_of(part.start), 0);
-    part.file
+// The file of a part is to be read on from where the part starts.
+pub(crate) fn at_start<F: Seek>(part: &mut Part<F>) -> io::Result<()> {
+    let place = place_of(part.start);
+    if let Some(file) = &mut part.file {
+        file.seek(SeekFrom::Start(place))?;
+    }
+    Ok(())
 }
 
 fn least(size: usize, most: usize) -> usize
@@ -68,14 +68,23 @@ fn least(size: usize, most: usize) -> usize
     if size < most { size } else { most }
 }
 
-// Loads the start of a part, and answers how many bytes it put there.
-pub fn load(part: Part, space: &mut [u8]) -> usize
-    ensures { result ≤ length space.new }
+// Reads on in the file of a part; there is nothing to read where it has none.
+fn read_on<F: Read>(part: &mut Part<F>, space: &mut [u8]) -> io::Result<usize>
+    ensures { IfOk result (λ n. n ≤ length space.new) }
 {
-    let file = at_start(part);
+    match &mut part.file {
+        Some(file) => reads::fill(file, space),
+        None => Ok(0),
+    }
+}
+
+// Loads the start of a part, and answers how many bytes it put there. After an error some of the space may be written.
+pub fn load<F: Read + Seek>(part: &mut Part<F>, space: &mut [u8]) -> io::Result<usize>
+    ensures { IfOk result (λ n. n ≤ length space.new) }
+{
+    at_start(part)?;
     let count = least(part.length, space.len());
-    let bytes = &mut space[..count];
-    io::read_full(descriptor(file), bytes)
+    read_on(part, &mut space[..count])
 }
 
 // The number in the eight bytes from 8k on; 0 where they are not there.
@@ -103,10 +112,8 @@ fn put_number(table: &mut [u64], k: usize, number: u64) {
 }
 
 pub(crate) fn numbers(stored: &[u8], records: &mut [u64]) {
-    let mut left = records.len();
-    while 0 < left {
-        left -= 1;
-        put_number(records, left, number_at(stored, left));
+    for k in 0..records.len() {
+        put_number(records, k, number_at(stored, k));
     }
 }
 
@@ -124,9 +131,12 @@ fn size_of_piece(bytes: usize, k: usize) -> usize {
     if k == full { bytes % 65536 } else { 0 }
 }
 
-// Reads the next piece, which is piece k.
-pub(crate) fn read_piece(file: usize, bytes: usize, k: usize, piece: &mut [u8]) -> usize {
-    let count = least(size_of_piece(bytes, k), piece.len());
-    let part = &mut piece[..count];
-    io::read_full(descriptor(file), part)
+// Reads the next piece of a part, which is piece k.
+pub(crate) fn read_piece<F: Read>(
+    part: &mut Part<F>,
+    k: usize,
+    piece: &mut [u8],
+) -> io::Result<usize> {
+    let count = least(size_of_piece(part.length, k), piece.len());
+    read_on(part, &mut piece[..count])
 }

@@ -11,13 +11,16 @@ ghost use Rattle.std.specs.Prelude.{◌≡◌, ◌≤◌, length};
 use desk::make_for;
 use engine::State;
 pub use files::{close, load, whole};
+use std::io;
+use std::io::{Read, Seek};
+use std::rt::Files;
 use terms::Verdict;
 
-// Bytes of an open file: so many from `start` on. The file is its descriptor, and past all descriptors where there is
-// none.
-#[derive(Clone, Copy)]
-pub struct Part {
-    pub file: usize,
+// Bytes of an open file: so many from `start` on. There is no file where it could not be opened. Parts of one file share
+// it, as `&File`.
+#[derive(Clone, Copy, Drop)]
+pub struct Part<F> {
+    pub file: Option<F>,
     pub start: usize,
     pub length: usize,
 }
@@ -57,69 +60,91 @@ fn no_bytes() -> [u8; 5720]
 }
 
 // The log, of which so much is read that one that is too long is refused, and room for the steps.
-fn with_newest(
+fn with_newest<R: Print, F: Read + Seek>(
+    rt: &R,
     state: State,
     quiet: bool,
-    log: Part,
-    steps: Part,
+    log: &mut Part<F>,
+    steps: &mut Part<F>,
     records: &mut [u64],
     newest: &mut [u16],
-) {
+) -> io::Result<()> {
     let mut space = no_bytes();
-    let length = files::load(log, &mut space);
+    let length = files::load(log, &mut space)?;
     let entries = &space[..length];
     let mut results = [0u64; 256];
-    let mut piece = io::large_buffer();
-    let file = files::at_start(steps);
+    let mut piece = [0u8; 65536];
+    files::at_start(steps)?;
     tables::run(
+        rt,
         state,
         quiet,
-        file,
-        steps.length,
+        steps,
         &mut piece,
         entries,
         records,
         newest,
         &mut results,
-    );
+    )
 }
 
 // The newest-version table, as long as the records.
-fn with_records(state: State, quiet: bool, log: Part, steps: Part, records: &mut [u64]) {
+fn with_records<R: Print, F: Read + Seek>(
+    rt: &R,
+    state: State,
+    quiet: bool,
+    log: &mut Part<F>,
+    steps: &mut Part<F>,
+    records: &mut [u64],
+) -> io::Result<()> {
     let mut space = no_slots();
     let length = shorter(records.len());
     let newest = &mut space[..length];
-    with_newest(state, quiet, log, steps, records, newest);
+    with_newest(rt, state, quiet, log, steps, records, newest)
 }
 
 // The records of a store that was made.
-fn with_state(state: State, quiet: bool, stored: Part, log: Part, steps: Part) {
+fn with_state<R: Print, F: Read + Seek>(
+    rt: &R,
+    state: State,
+    quiet: bool,
+    stored: &mut Part<F>,
+    log: &mut Part<F>,
+    steps: &mut Part<F>,
+) -> io::Result<()> {
     let mut bytes = [0u8; 8192];
-    files::load(stored, &mut bytes);
+    files::load(stored, &mut bytes)?;
     let mut space = zeros();
     let length = shorter(state.records as usize);
     let records = &mut space[..length];
     files::numbers(&bytes, records);
-    with_records(state, quiet, log, steps, records);
+    with_records(rt, state, quiet, log, steps, records)
 }
 
 // All that the program does.
-pub fn run(setup: Setup, stored: Part, log: Part, steps: Part) {
+pub fn run<R: Print, F: Read + Seek>(
+    rt: &R,
+    setup: Setup,
+    stored: &mut Part<F>,
+    log: &mut Part<F>,
+    steps: &mut Part<F>,
+) -> io::Result<()> {
     let made = make_for(stored.length, setup.partitions, setup.workers);
     let verdict = made.verdict;
     match verdict {
-        Verdict::Accepted => with_state(made.state, setup.quiet, stored, log, steps),
-        Verdict::Refused(refusal, _) => print::refused(refusal),
+        Verdict::Accepted => with_state(rt, made.state, setup.quiet, stored, log, steps),
+        Verdict::Refused(refusal, _) => print::refused(rt, refusal),
     }
 }
 
 // The same with the three files themselves.
-pub fn run_files(setup: Setup) {
-    let stored = whole(b"records.bin");
-    let log = whole(b"log.bin");
-    let steps = whole(b"steps.bin");
-    run(setup, stored, log, steps);
+pub fn run_files<R: Files + Print>(rt: &R, setup: Setup) -> io::Result<()> {
+    let mut stored = whole(rt, "records.bin");
+    let mut log = whole(rt, "log.bin");
+    let mut steps = whole(rt, "steps.bin");
+    run(rt, setup, &mut stored, &mut log, &mut steps)?;
     close(stored);
     close(log);
     close(steps);
+    Ok(())
 }

@@ -3,19 +3,21 @@ use desk::{
     Line, Tally, counts_of, not_sealed_line, opening_line, record_at, refusal_line, transaction_at,
 };
 use engine::Stepped;
+use std::io;
 use terms::Refusal;
 
-fn print(line: Line) {
+fn print(rt: &impl Print, line: Line) -> io::Result<()> {
     let length = line.length;
     let bytes = line.bytes;
     if length <= 128 {
-        io::write_all(1, &bytes[..length]);
+        rt.write_all(&bytes[..length])?;
     }
+    Ok(())
 }
 
 // "A refused opening prints only "refused" and the number." A store that cannot be made is one.
-pub(crate) fn refused(refusal: Refusal) {
-    print(refusal_line(refusal));
+pub(crate) fn refused(rt: &impl Print, refusal: Refusal) -> io::Result<()> {
+    print(rt, refusal_line(refusal))
 }
 
 pub(crate) fn is_refused(stepped: Stepped) -> bool {
@@ -23,39 +25,50 @@ pub(crate) fn is_refused(stepped: Stepped) -> bool {
     0 < answer.number()
 }
 
-pub(crate) fn refusal(stepped: Stepped) {
-    print(opening_line(stepped));
+pub(crate) fn refusal(rt: &impl Print, stepped: Stepped) -> io::Result<()> {
+    print(rt, opening_line(stepped))
 }
 
-fn transactions(tally: Tally, log: &[u8], results: &[u64]) {
-    let mut index: usize = 0;
-    while index < log.len() / 88 {
-        print(transaction_at(tally, log, results, index));
-        index += 1;
+fn transactions(rt: &impl Print, tally: Tally, log: &[u8], results: &[u64]) -> io::Result<()> {
+    for index in 0..log.len() / 88 {
+        print(rt, transaction_at(tally, log, results, index))?;
     }
+    Ok(())
 }
 
-fn records(stored: &[u64]) {
-    let mut number: usize = 0;
-    while number < stored.len() {
-        print(record_at(stored, number));
-        number += 1;
+fn records(rt: &impl Print, stored: &[u64]) -> io::Result<()> {
+    for number in 0..stored.len() {
+        print(rt, record_at(stored, number))?;
     }
+    Ok(())
 }
 
 // "With no seal accepted, "not sealed" stands in place of the tx and rec lines."
-fn batch(tally: Tally, log: &[u8], stored: &[u64], results: &[u64]) {
+fn batch(
+    rt: &impl Print,
+    tally: Tally,
+    log: &[u8],
+    stored: &[u64],
+    results: &[u64],
+) -> io::Result<()> {
     if tally.sealed {
-        transactions(tally, log, results);
-        records(stored);
+        transactions(rt, tally, log, results)?;
+        records(rt, stored)
     } else {
-        print(not_sealed_line());
+        print(rt, not_sealed_line())
     }
 }
 
-pub(crate) fn all(tally: Tally, quiet: bool, log: &[u8], stored: &[u64], results: &[u64]) {
+pub(crate) fn all(
+    rt: &impl Print,
+    tally: Tally,
+    quiet: bool,
+    log: &[u8],
+    stored: &[u64],
+    results: &[u64],
+) -> io::Result<()> {
     if !quiet {
-        batch(tally, log, stored, results);
+        batch(rt, tally, log, stored, results)?;
     }
-    print(counts_of(tally));
+    print(rt, counts_of(tally))
 }

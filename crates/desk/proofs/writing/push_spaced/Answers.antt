@@ -20,8 +20,8 @@ loop-k-preserved c =
       within = omega arith;
       few = omega arith;
       so_far =
-        spaced_next c.loop-k.line c.push_value-line.result c.args.line numbers k (get_or numbers k 0) within refl
-        c.loop-k.invariant.so_far c.push_value-line.ensures;
+          spaced_next c.loop-k.line c.push_value-line.result c.args.line numbers k (get_or numbers k 0) within refl
+          c.loop-k.invariant.so_far c.push_value-line.ensures;
     }
 
 pub returns : goal.returns

@@ -10,7 +10,7 @@ loop-k-preserved c =
     let text = c.args.text.now in
     let k = c.loop-k.k in
     let next =
-      pushed_next c.loop-k.line c.args.line text k (get_or text k 0) (omega arith) refl c.loop-k.invariant.1 in
+    pushed_next c.loop-k.line c.args.line text k (get_or text k 0) (omega arith) refl c.loop-k.invariant.1 in
     (omega arith, c.push-line.ensures ∙ next)
 
 pub returns : goal.returns

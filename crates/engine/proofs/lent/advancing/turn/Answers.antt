@@ -5,5 +5,5 @@ pub returns : goal.returns
 returns c =
     let args = c.args in
     rw (c.turn_after_look.ensures, c.consider_advance-aim.ensures) (
-      turn_with_lem args.wrong args.numbers args.party args.worker args.log.now args.records.now args.newest.now
-      args.versions.now args.four)
+    turn_with_lem args.wrong args.numbers args.party args.worker args.log.now args.records.now args.newest.now
+    args.versions.now args.four)

@@ -1,5 +1,5 @@
-use Rattle.std.proofs.Common.{◌∙◌, ◌≡◌, ap, refl, length}
-use Rattle.engine.specs.LawsLentPlace.{placing_by, counted_as, lent_counted, lent_newest, lent_versions}
+use Rattle.std.proofs.Common.{◌∙◌, ◌≡◌, ap, refl}
+use Rattle.engine.specs.LawsLentPlace.{counted_as, lent_counted, lent_newest, lent_versions}
 use Rattle.engine.specs.LawsPlace.{writes_on}
 use Rattle.engine.specs.Place.{Plans}
 use Rattle.engine.specs.declared.place.Placing.{Placing}

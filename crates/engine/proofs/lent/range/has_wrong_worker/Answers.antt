@@ -2,9 +2,6 @@ use Rattle.std.proofs.Common.{◌≡◌, ◌+◌, ◌∙◌, refl, ap, suc, arit
 use Rattle.engine.specs.LawsLent.{wrong_below, workers_told}
 use Rattle.engine.proofs.lent.range.has_wrong_worker.Goals as goal
 
-pub loop-w-init : goal.loop-w-init
-loop-w-init c = (omega arith, refl)
-
 pub loop-w-preserved : goal.loop-w-preserved
 loop-w-preserved c =
     let next : c.loop-w.w + 1 ≡ suc c.loop-w.w = omega arith in

@@ -1,0 +1,27 @@
+// Reading a run of bytes from a file that may end before it does.
+#![tactic(auto)]
+
+ghost use Rattle.std.specs.Prelude.{◌≤◌, length, IfOk};
+
+use std::io;
+use std::io::{ErrorKind, Read};
+
+// Reads until the space is full or the input ends, and answers how many bytes it put at the space's start. After an error
+// some of the space may be written.
+pub fn fill<F: Read>(input: &mut F, space: &mut [u8]) -> io::Result<usize>
+    ensures { IfOk result (λ n. n ≤ length space.new) }
+{
+    let mut done = 0;
+    for _ in 0..u64::MAX {
+        if done >= space.len() {
+            break;
+        }
+        match input.read(&mut space[done..]) {
+            Ok(0) => break,
+            Ok(n) => done += n,
+            Err(e) if e.kind() == ErrorKind::Interrupted => {}
+            Err(e) => return Err(e),
+        }
+    }
+    Ok(done)
+}
