@@ -48,7 +48,7 @@ uint32_t uxoladun_check(const uint8_t *entry, size_t length, size_t records, uin
 // each transaction in turn.
 //
 // In crates/capi both calls are proved to give what the definitions in its specs/ say, for every input: `uxoladun_run`
-// is Running.antt's `ranOf`. That a sealed batch's records and results are those of the transactions run one by one is
+// is Running.antt's `ran_of`. That a sealed batch's records and results are those of the transactions run one by one is
 // proved of it in crates/promised. The proofs take for granted what C does not check: each pointer is to as many
 // elements as the length with it says, aligned, not null even where the length is 0, and no array that is written
 // overlaps another.

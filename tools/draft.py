@@ -3,7 +3,8 @@
 # Drafts the open `returns` of functions that call others, branch and match: each becomes an `rw` with the equations
 # that are known there. First those of the calls after the last branch, then those of the enums, and then, from the first
 # on, each call that fed a branch, from right to left, with what the branch told. UNFOLD are definitions of the crate's
-# specs that the answer opens. A proof file with holes must be there, as `rt dev CRATE` prints it.
+# specs that the answer opens. A proof file with holes must be there, as an older kit's `rt dev CRATE` printed it: this
+# drafted for that toolchain's walks, whose statements it reads, and has nothing to draft now.
 import glob
 import os
 import re

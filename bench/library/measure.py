@@ -2,10 +2,11 @@
 
     python3 bench/library/measure.py LIBRARY COUNT_INSNS
 
-LIBRARY is target/staticlib/libcapi.a. COUNT_INSNS PROGRAM ARGUMENTS.. runs an x86-64 program and writes 'insns N' to
-standard error. All three are the call uxoladun_run behind one program, call.c, on the same batches. What they give is
-compared: everything between the library and the engine in C, everything but the counts of steps with the one-by-one
-run. C is compiled at -O2. What call.c itself does is counted with a call that does nothing, and taken off.
+LIBRARY is crates/capi_c/out/libcapi.a, made as README.md says. COUNT_INSNS PROGRAM ARGUMENTS.. runs an x86-64 program
+and writes 'insns N' to standard error. All three are the call uxoladun_run behind one program, call.c, on the same
+batches. What they give is compared: everything between the library and the engine in C, everything but the counts of
+steps with the one-by-one run. C is compiled at -O2. What call.c itself does is counted with a call that does nothing,
+and taken off.
 
 A batch of n transactions has chains of so many versions: that many transactions, one after the other, read and write
 the same record (kind one) or the same four (kind four) and add to it. A chain of 1 has no two on the same record. Each

@@ -6,8 +6,9 @@
 Makes the cases and the lines that they must give (reference/cases_library.py), builds run_cases.c with the library,
 runs it and compares every line.
 
-`rt staticlib capi` writes an archive for x86-64, target/staticlib/libcapi.a. On another machine a LIBRARY is taken for
-such a one: the program is built by x86_64-linux-gnu-gcc and run by qemu-x86_64, without the sanitizers.
+`rt lib` in crates/capi_c writes an archive for x86-64, out/libcapi_c.a; README.md copies it to libcapi.a beside it. On
+another machine a LIBRARY is taken for such a one: the program is built by x86_64-linux-gnu-gcc and run by qemu-x86_64,
+without the sanitizers.
 """
 
 import os

@@ -1,9 +1,10 @@
-"""Writes the proofs of functions over lent slices of structs.
+"""Writes the proofs of functions over lent slices of structs, for the walks of an older toolchain.
 
-The checker walks most code by itself and leaves facts about numbers and lists. A function that has a reference to a
-struct or a slice of structs in a parameter or a local it leaves to the author: a walk of its code, statement by
-statement. Such walks are all alike, so they are written from the code and a description of what is called.
-`tools/regenerate` writes them all; nobody edits them. In the order in which one would read:
+Today's checker takes such functions through by itself, so there is nothing to make now. The older one walked most code
+by itself and left facts about numbers and lists. A function that had a reference to a struct or a slice of structs in a
+parameter or a local it left to the author: a walk of its code, statement by statement. Such walks are all alike, so
+they are written from the code and a description of what is called. `tools/regenerate` wrote them all; nobody edited
+them. In the order in which one would read:
 
     description.py       what a description has: types, callees, functions; descriptions/ has one for each part of a crate
     values.py, terms.py  a type's values and terms, as text

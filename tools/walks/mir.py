@@ -119,8 +119,11 @@ def printed(root, crate):
             with open(program, 'w') as nothing:
                 nothing.write('fn main() {}\n')
         name = crate if folder not in program else 'nothing'
-        done = subprocess.run([tools + '/bin/rattle-print-mir', program, '--crate-name', name] + words,
-                              capture_output=True, text=True)
+        try:
+            done = subprocess.run([tools + '/bin/rattle-print-mir', program, '--crate-name', name] + words,
+                                  capture_output=True, text=True)
+        except FileNotFoundError:
+            raise SystemExit('regenerate: this kit has no rattle-print-mir, so nothing can be made') from None
     if done.returncode:
         raise SystemExit('regenerate: no MIR of %s:\n%s' % (crate, done.stderr))
     return done.stdout

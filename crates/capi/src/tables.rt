@@ -1,5 +1,5 @@
-// The functions that have the newest-version and the version table. Each does little: a function that has a slice of
-// structs is proved by a walk of its code, and a walk grows with what the function lends and calls.
+// The functions that have the newest-version and the version table. Each does little, since the proof of a function that
+// has a slice of structs grows with what it lends and calls.
 ghost use Rattle.std.specs.Prelude.{◌≡◌, ◌≤◌, length, replicate};
 ghost use Rattle.terms.specs.Reserved.{no_slot};
 ghost use Rattle.versions.specs.Entry.{empty_entry};

@@ -1,5 +1,5 @@
-// The functions that have the version table. Each does little: a function that has a slice of structs is proved by a
-// walk of its code, and a walk grows with what the function lends and calls.
+// The functions that have the version table. Each does little, since the proof of a function that has a slice of structs
+// grows with what it lends and calls.
 use crate::calls::Asked;
 use crate::{print, read};
 use engine::{State, Stepped};

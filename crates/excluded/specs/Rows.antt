@@ -3,10 +3,10 @@
 -- is refused, the message has the numbers of the rows that exclude nothing.
 --
 --     abbrev pub rows : List Row
---     rows = row number (numberOf NotAscending) 7 ∷ row mark (eqb 65534 noSlot) true ∷ []
+--     rows = row number (number_of NotAscending) 7 ∷ row mark (eqb 65534 no_slot) true ∷ []
 --
---     pub terms-exclude : AllExclude rows
---     terms-exclude = all-exclude rows refl
+--     pub terms_exclude : AllExclude rows
+--     terms_exclude = all_exclude rows refl
 use Rattle.std.specs.Prelude.{ℕ, suc, Bool, true, false, ◌||◌, not, cond, List, [], ◌∷◌, ◌≢◌, ◌≡◌, refl, eqb}
 use Rattle.std.proofs.Common.{ap, arith, eq-eqb}
 
