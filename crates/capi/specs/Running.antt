@@ -1,5 +1,5 @@
 -- A whole batch from memory: making a store, opening the batch, offering every step, telling what came of it.
-use Rattle.std.specs.Prelude.{ℕ, Bool, true, false, cond, List, eqb, length, replicate}
+use Rattle.std.specs.Prelude.{ℕ, cond, List, eqb, length, replicate}
 use Rattle.terms.specs.Refusals.{verdict_number}
 use Rattle.versions.specs.Entry.{empty_entry}
 use Rattle.versions.specs.declared.Version.{Version}

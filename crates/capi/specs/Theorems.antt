@@ -9,7 +9,7 @@ use Rattle.versions.specs.Entry.{empty_entry}
 use Rattle.versions.specs.declared.Version.{Version}
 use Rattle.engine.specs.Answers.{answer_number}
 use Rattle.engine.specs.Make.{make_of}
-use Rattle.engine.specs.Open.{open_verdict, opened_by, open_of, Opened}
+use Rattle.engine.specs.Open.{open_verdict, opened_by, open_of}
 use Rattle.engine.specs.declared.Made.{Made}
 use Rattle.engine.specs.declared.State.{State}
 use Rattle.desk.specs.Counts.{begun}

@@ -5,7 +5,7 @@ use Rattle.terms.specs.Refusals.{verdict_number, verdict_place}
 use Rattle.terms.specs.Unique.{same}
 use Rattle.packed.specs.Unpacking.{unpack_of}
 use Rattle.capi.specs.LawsRunning.{ReturnedMet}
-use Rattle.capi.specs.Running.{Returned, ran_of}
+use Rattle.capi.specs.Running.{ran_of}
 
 -- what the contract of `uxoladun_check` says
 abbrev pub CheckMet : ℕ → List ℕ → ℕ → ℕ → Type 0

@@ -5,7 +5,7 @@ use Rattle.terms.specs.declared.refusal.Verdict.{Verdict}
 use Rattle.terms.specs.declared.refusal.Verdict.TheVariants.{Accepted as Passed, Refused as Fails}
 use Rattle.versions.specs.declared.Version.{Version}
 use Rattle.versions.specs.Seal.{newest_sound_of}
-use Rattle.engine.specs.Advance.{advance_verdict, move_of, moved_state, answered_by, advanced_when, advance_of}
+use Rattle.engine.specs.Advance.{advance_verdict, move_of, answered_by, advanced_when, advance_of}
 use Rattle.engine.specs.Answers.{refuse_if, accept}
 use Rattle.engine.specs.Claim.{no_such_claim, after_claim, claim_of}
 use Rattle.engine.specs.Lent.{joined, numbers_of}

@@ -6,7 +6,7 @@ use Rattle.counters.specs.declared.Outcome.TheVariants.{Committed, Aborted}
 use Rattle.desk.specs.LawsLines.{pushed_both, held}
 use Rattle.desk.specs.Lines.{pushed_all, line_of}
 use Rattle.desk.specs.Text.{digit, digits, decimal, spaced}
-use Rattle.desk.specs.Text.{tx_word, committed_word, aborted_word, rec_word, space, steps_word, refused_word, waits_word}
+use Rattle.desk.specs.Text.{tx_word, rec_word, space, steps_word, refused_word, waits_word}
 use Rattle.desk.specs.Text.{refused_first, new_line, outcome_word, tx_line, rec_line, counts_line, refused_line}
 use Rattle.desk.specs.Text.{not_sealed_line}
 

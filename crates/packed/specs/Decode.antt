@@ -1,5 +1,5 @@
 -- What the bytes of an entry mean, proper or not. Document 01, "A packed transaction".
-use Rattle.std.specs.Prelude.{ℕ, ◌+◌, List, [], ◌∷◌}
+use Rattle.std.specs.Prelude.{ℕ, List, [], ◌∷◌}
 use Rattle.packed.specs.Fields.{byte_at, set_at, fields_at}
 use Rattle.packed.specs.Kinds.{by_kind}
 use Rattle.packed.specs.declared.Action.{Action}

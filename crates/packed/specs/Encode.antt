@@ -1,10 +1,9 @@
 -- The bytes of a meaning, proper or not. Document 01, "A packed transaction".
-use Rattle.std.specs.Prelude.{ℕ, List, [], ◌∷◌, ◌++◌, get_or}
+use Rattle.std.specs.Prelude.{ℕ, List, ◌∷◌, ◌++◌, get_or}
 use Rattle.little.specs.Little.{bytes_of}
 use Rattle.packed.specs.Decode.{row}
 use Rattle.packed.specs.declared.Action.{Action}
 use Rattle.packed.specs.declared.Action.TheVariants.{Nothing, Set, Add, Take, Copy, Move, Floor}
-use Rattle.packed.specs.declared.ActionRow.{ActionRow}
 use Rattle.packed.specs.declared.Transaction.{Transaction}
 use Rattle.packed.specs.declared.fields.Fields.{Fields}
 

@@ -1,7 +1,7 @@
 -- Refusal 4: "a count above 4, a kind outside 1–6 within the count, or a byte that must be zero is not".
-use Rattle.std.specs.Prelude.{ℕ, ◌+◌, Bool, true, false, ◌&&◌, ◌||◌, not, cond, List, [], ◌∷◌, get_or, ltb, leb, eqb}
+use Rattle.std.specs.Prelude.{ℕ, ◌+◌, Bool, ◌&&◌, ◌||◌, not, cond, List, get_or, ltb, leb, eqb}
 use Rattle.packed.specs.Fields.{byte_at, set_at, fields_at}
-use Rattle.packed.specs.Kinds.{Uses, uses_of}
+use Rattle.packed.specs.Kinds.{uses_of}
 use Rattle.packed.specs.declared.fields.Fields.{Fields}
 
 -- "a count above 4"

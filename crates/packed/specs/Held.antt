@@ -1,7 +1,6 @@
 -- The meanings that code can hold: what their types say of their numbers. The crate `held` proves it of every one.
 use Rattle.std.specs.Prelude.{ℕ, ◌^◌, ◌<◌, ◌≡◌, List, length, get_or}
 use Rattle.packed.specs.Encode.{fields_of, action_in}
-use Rattle.packed.specs.declared.Action.{Action}
 use Rattle.packed.specs.declared.Transaction.{Transaction}
 use Rattle.packed.specs.declared.fields.Fields.{Fields}
 

@@ -2,7 +2,7 @@
 -- actions only where something is.
 use Rattle.std.specs.Prelude.{ℕ, Bool, true, ◌||◌, not, ◌≡◌, refl, List}
 use Rattle.std.proofs.Math.Bool.{false}
-use Rattle.std.proofs.Common.{sym, ◌∙◌}
+use Rattle.std.proofs.Common.{◌∙◌}
 use Rattle.std.proofs.lemmas.Bool.{not-true}
 use Rattle.terms.specs.Refusals.{refused}
 use Rattle.terms.specs.declared.refusal.Refusal.TheVariants.{
@@ -17,7 +17,7 @@ use Rattle.packed.specs.Form.{malformed}
 use Rattle.packed.specs.LawsForm.{not_left, not_right}
 use Rattle.packed.specs.LawsListed.{declared_below}
 use Rattle.packed.specs.LawsRecords.{not_both}
-use Rattle.packed.specs.LawsSets.{sets_proper, InSets, in_sets, descends_somewhere, by_actions}
+use Rattle.packed.specs.LawsSets.{sets_proper, in_sets, descends_somewhere, by_actions}
 use Rattle.packed.specs.Records.{some_action, uses_too_large, no_such_record, undeclared_read, undeclared_write}
 
 pub none_undeclared : (read write : Bool) → not (read || write) ≡ true → (read ≡ false) × (write ≡ false)

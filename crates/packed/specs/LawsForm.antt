@@ -1,6 +1,6 @@
 -- Laws of refusal 4.
 use Rattle.std.specs.Prelude.{ℕ, ◌≤◌, Bool, true, false, ◌||◌, ◌≡◌, refl, List, ltb}
-use Rattle.std.proofs.Common.{sym, ◌∙◌, arith, ltb-false}
+use Rattle.std.proofs.Common.{ltb-false}
 use Rattle.packed.specs.Fields.{byte_at}
 use Rattle.packed.specs.Form.{count_above, kinds_outside, nonzero, malformed}
 

@@ -1,5 +1,5 @@
 -- Laws of the six kinds.
-use Rattle.std.specs.Prelude.{ℕ, zero, suc, ◌<◌, ◌≡◌, refl, List, [], ◌∷◌}
+use Rattle.std.specs.Prelude.{ℕ, zero, suc, ◌<◌, ◌≡◌, refl, []}
 use Rattle.std.proofs.Common.{arith}
 use Rattle.packed.specs.Kinds.{by_kind, line, uses_of}
 use Rattle.packed.specs.declared.fields.Fields.{Fields}

@@ -1,18 +1,17 @@
 -- Reading and writing an entry undo each other.
-use Rattle.std.specs.Prelude.{ℕ, zero, suc, ◌+◌, ◌^◌, ◌<◌, Bool, true, false, ◌≡◌, refl, List, [], ◌∷◌, ◌++◌, length, get_or, drop}
+use Rattle.std.specs.Prelude.{ℕ, zero, suc, ◌+◌, ◌<◌, false, ◌≡◌, refl, List, [], ◌∷◌, length, get_or, drop}
 use Rattle.std.proofs.Common.{sym, ap, ◌∙◌, arith, drop-cons}
 use Rattle.std.proofs.Math.Seq.{drop-length}
-use Rattle.little.specs.Little.{number_in, bytes_of}
+use Rattle.little.specs.Little.{bytes_of}
 use Rattle.little.specs.Laws.{Bytes, bytes_of_number, number_of_bytes, picked}
 use Rattle.packed.specs.Decode.{action_of, row, row_at, decode}
 use Rattle.packed.specs.Encode.{fields_of, action_bytes, set_bytes, action_in, encode}
 use Rattle.packed.specs.Fields.{byte_at, word_at, long_at, set_at, fields_at}
 use Rattle.packed.specs.Form.{malformed}
 use Rattle.packed.specs.Held.{HeldSet, HeldFields, Held}
-use Rattle.packed.specs.LawsAccepted.{Kept, Formed, formed}
+use Rattle.packed.specs.LawsAccepted.{Formed, formed}
 use Rattle.packed.specs.declared.Action.{Action}
 use Rattle.packed.specs.declared.Action.TheVariants.{Nothing, Set, Add, Take, Copy, Move, Floor}
-use Rattle.packed.specs.declared.ActionRow.{ActionRow}
 use Rattle.packed.specs.declared.Transaction.{Transaction}
 use Rattle.packed.specs.declared.fields.Fields.{Fields}
 

@@ -1,6 +1,6 @@
 -- Laws of refusals 5 and 6 in the sets: a set that ascends strictly to a last record below n has all below n.
 use Rattle.std.specs.Prelude.{ℕ, ◌<◌, Bool, true, false, ◌&&◌, ◌||◌, not, ◌≡◌, refl, List, leb, ltb, get_or}
-use Rattle.std.proofs.Common.{sym, ap, ◌∙◌, arith, leb-true, leb-false, lt-ltb, le-ltb}
+use Rattle.std.proofs.Common.{sym, arith, leb-true, leb-false, lt-ltb, le-ltb}
 use Rattle.std.proofs.lemmas.Bool.{lt-leb, not-true}
 use Rattle.packed.specs.Fields.{byte_at, set_at}
 use Rattle.packed.specs.LawsForm.{not_left, not_right}

@@ -1,5 +1,5 @@
 -- What an accepting verdict says.
-use Rattle.std.specs.Prelude.{ℕ, ◌≤◌, Bool, true, false, not, ◌≡◌, refl, List}
+use Rattle.std.specs.Prelude.{ℕ, Bool, true, false, ◌≡◌, refl, List}
 use Rattle.std.proofs.Common.{arith}
 use Rattle.terms.specs.Refusals.{refuse_if}
 use Rattle.terms.specs.declared.refusal.Refusal.{Refusal}
@@ -7,7 +7,7 @@ use Rattle.terms.specs.declared.refusal.Verdict.{Verdict}
 use Rattle.terms.specs.declared.refusal.Verdict.TheVariants.{Accepted, Refused}
 use Rattle.packed.specs.Checks.{entry_verdict, wrong_record_count, verdict_of}
 use Rattle.packed.specs.Form.{malformed}
-use Rattle.packed.specs.Packing.{packed, written}
+use Rattle.packed.specs.Packing.{written}
 use Rattle.packed.specs.Records.{no_such_record, not_ascending, undeclared_read, undeclared_write}
 use Rattle.packed.specs.Unpacking.{unpacked}
 use Rattle.packed.specs.declared.Transaction.{Transaction}

@@ -1,6 +1,6 @@
 -- Laws of eight bytes taken as one number: the bytes from some place on are zero where the number is below a power of
 -- 256.
-use Rattle.std.specs.Prelude.{ℕ, zero, suc, ◌+◌, ◌*◌, ◌<◌, Bool, true, false, ◌||◌, not, ◌≡◌, refl, List, leb, eqb}
+use Rattle.std.specs.Prelude.{ℕ, zero, suc, ◌+◌, ◌*◌, ◌<◌, true, ◌||◌, not, ◌≡◌, refl, List, leb}
 use Rattle.std.proofs.Common.{ap, arith, le-leb, ne_eqb}
 use Rattle.std.proofs.lemmas.Bool.{lt-leb}
 use Rattle.little.specs.Laws.{Bytes}

@@ -2,7 +2,7 @@
 -- that the functions `unpack` and `pack` are proved to equal. `Bytes` says that a list holds bytes, and `Held` that a
 -- meaning is one that code can hold: of what code lends and passes both are true. None is vacuous: `zeros_are_proper`
 -- accepts an entry.
-use Rattle.std.specs.Prelude.{ℕ, Bool, true, false, not, ◌≡◌, refl, List, length, replicate, eqb}
+use Rattle.std.specs.Prelude.{ℕ, false, not, ◌≡◌, refl, List, length, replicate, eqb}
 use Rattle.std.proofs.Common.{sym, ap, ◌∙◌, eqb-true}
 use Rattle.std.proofs.lemmas.Bool.{not-false}
 use Rattle.terms.specs.declared.refusal.Verdict.TheVariants.{Accepted}

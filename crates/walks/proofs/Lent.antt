@@ -11,38 +11,11 @@ use seplogic.Ra.Ura.{Ura}
 use base.Fraction.{full_share}
 use mir.Syntax.{Lifetime}
 use mir.Val.{Val}
-use base.Logic.{SProp, ent, sep, ex}
+use base.Logic.{ent, sep, ex}
 use base.Fml.{Lft, GName, Share, Fml, Incl, fsep, flft, fdead, fobs, fauth, flent, fobor}
 use ghost.Rules.{Toks, span}
 use types.Logic.{Logic, sem, lfts}
-use types.Kit.{
-  ‵,
-  raw,
-  ◌⊛◌,
-  some,
-  later,
-  ◌$◌,
-  ◌∵◌,
-  !,
-  qed,
-  move,
-  use1,
-  use2,
-  use3,
-  drop,
-  split,
-  pick,
-  fsplit,
-  fjoin,
-  join,
-  feq_i,
-  frame,
-  await,
-  updating,
-  now as at_once,
-  show,
-  done,
-}
+use types.Kit.{‵, raw, ◌⊛◌, some, later, ◌$◌, ◌∵◌, !, qed, move, use1, use2, use3, drop, split, pick, fsplit, fjoin, feq_i, frame, await, updating, now as at_once, show, done}
 use types.SemTy.{cells, Arr}
 use types.Share.{arr_parts}
 use types.Tokens.{lent_back}

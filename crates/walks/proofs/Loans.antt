@@ -5,7 +5,7 @@
 -- The slice's machine value has the count m, and the list that it owns is as long: so the local that holds the slice is
 -- never rewritten. To lend it as `&[T]` takes T's law of sharing (`Shares`) at the new lifetime, which a type has that
 -- can be copied (`denote.Copied`'s `shares`). Assumes `Logic`.
-use mathlib.Core.Path.{◌≡◌, refl, sym, ◌∙◌, subst}
+use mathlib.Core.Path.{◌≡◌, refl, sym, subst}
 use Prim.Native.Nat.{ℕ}
 use mathlib.Core.List.{List, [], ◌∷◌}
 use lib.ListN.{length}

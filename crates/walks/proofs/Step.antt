@@ -12,7 +12,7 @@ use base.Fraction.{full_share}
 use mir.Syntax.{Callee, Opd as Operand, Place, Body, seq, call, named}
 use mir.Val.{Val}
 use base.Logic.{SProp, ent, sep, ex, guard, emp}
-use base.Fml.{Lft, GName, Share, Fml, flft}
+use base.Fml.{Lft, GName, Share, flft}
 use prog.Wp.{Env, Calls, Loops}
 use types.Logic.{Logic, sem}
 use types.Kit.{

@@ -1,4 +1,4 @@
-use Rattle.std.proofs.Common.{refl, sym, ap, ◌∙◌, T, not, ◌≡◌}
+use Rattle.std.proofs.Common.{◌∙◌, T, not}
 use Rattle.desk.specs.Steps.{is_place, is_claim}
 use Rattle.desk.specs.LawsLending.{place_met, claim_met, later_met}
 use Rattle.desk.proofs.lending.offer.Goals as goal

@@ -1,4 +1,4 @@
-use Rattle.std.proofs.Common.{refl, sym, ap, ◌∙◌, T, not, ◌≡◌}
+use Rattle.std.proofs.Common.{◌∙◌, T, not}
 use Rattle.desk.specs.Steps.{is_advance, is_seal}
 use Rattle.desk.specs.LawsLending.{advance_met, seal_met}
 use Rattle.desk.proofs.lending.offer_later.Goals as goal

@@ -1,4 +1,3 @@
-use Rattle.std.proofs.Common.{refl}
 use Rattle.desk.specs.Text.{decimal}
 use Rattle.desk.proofs.writing.push_number.Goals as goal
 

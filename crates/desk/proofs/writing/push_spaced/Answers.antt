@@ -1,4 +1,4 @@
-use Rattle.std.proofs.Common.{ℕ, ◌≡◌, ◌<◌, length, refl, arith, ap, ◌∙◌, get_or, take}
+use Rattle.std.proofs.Common.{◌≡◌, ◌<◌, length, refl, arith, ap, ◌∙◌, get_or, take}
 use Rattle.desk.specs.LawsLines.{pushed_none, spaced_next, four_below, four_taken}
 use Rattle.desk.specs.Lines.{pushed_all}
 use Rattle.desk.specs.Text.{spaced}

@@ -1,4 +1,4 @@
-use Rattle.std.proofs.Common.{sym, refl, ◌<◌, arith}
+use Rattle.std.proofs.Common.{sym, refl, arith}
 use Rattle.packed.specs.Decode.{action_of}
 use Rattle.packed.specs.LawsKinds.{Other, other_kind}
 use Rattle.packed.proofs.decode.action_of.Goals as goal
@@ -30,7 +30,9 @@ returns-in-6 c = rw c.in-6.is refl
 pub returns-in_default : goal.returns-in_default
 unfolding action_of
 returns-in_default c =
-    let other : Other c.args.x.kind =
-      ((((((tt, λ e. omega arith), λ e. omega arith), λ e. omega arith), λ e. omega arith), λ e. omega arith), λ e.
-      omega arith) in
+    let other : Other c.args.x.kind = (
+      (((((tt, λ e. omega arith), λ e. omega arith), λ e. omega arith), λ e. omega arith), λ e. omega arith),
+      λ e.
+          omega arith,
+    ) in
     sym (other_kind _ _ _ _ _ _ _ c.args.x.kind other)

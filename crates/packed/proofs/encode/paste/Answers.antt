@@ -1,5 +1,5 @@
 use Rattle.std.proofs.Common.{refl, arith, length-set}
-use Rattle.packed.specs.LawsEncode.{pasted, none_pasted, one_pasted, all_pasted}
+use Rattle.packed.specs.LawsEncode.{none_pasted, one_pasted, all_pasted}
 use Rattle.packed.proofs.encode.paste.Goals as goal
 
 pub loop-k-init : goal.loop-k-init

@@ -1,6 +1,6 @@
-use Rattle.std.proofs.Common.{refl, ap, sym, ◌∙◌, eq-eqb}
+use Rattle.std.proofs.Common.{refl, eq-eqb}
 use Rattle.std.proofs.lemmas.Bool.{ne_eqb}
-use Rattle.packed.specs.Checks.{entry_verdict, verdict_of}
+use Rattle.packed.specs.Checks.{verdict_of}
 use Rattle.packed.specs.Packing.{pack_of}
 use Rattle.packed.proofs.packing.pack.Goals as goal
 
