@@ -48,7 +48,8 @@ def imports(text):
 
 
 def is_walk(path):
-    return path.name in ("Proof.antt", "Answers.antt", "Invariants.antt") or "Calls" in path.parts
+    return "proofs" in path.parts and (
+        path.name in ("Proof.antt", "Answers.antt", "Invariants.antt") or "Calls" in path.parts)
 
 
 def wants(name):

@@ -73,7 +73,7 @@ fn all_cases(rt: &impl Print, file: Part<&File>) -> io::Result<()> {
 }
 
 fn main(rt: HostRuntime) -> io::Result<()> {
-    let file = whole(&rt, "cases.bin");
+    let file = whole(&rt, b"cases.bin");
     let shared = Part {
         file: file.file.as_ref(),
         start: file.start,

@@ -12,7 +12,7 @@ fn wide(byte: u8) -> usize {
 }
 
 fn setup(rt: &impl Files) -> io::Result<Setup> {
-    let mut file = whole(rt, "setup.bin");
+    let mut file = whole(rt, b"setup.bin");
     let mut bytes = [0u8; 3];
     let got = load(&mut file, &mut bytes)?;
     close(file);

@@ -29,13 +29,13 @@ use Rattle.engine.specs.declared.State.{State}
 use Rattle.instances.specs.Differences.{passed_fails}
 
 -- nine partitions, and a first position of 0, whatever the store that is handed back
-pub nine-partitions-accepted : (s : State) → record { verdict = Passed; state = s } ≡ make_of 4 9 2 1 → ⊥
+pub nine_partitions_accepted : (s : State) → record { verdict = Passed; state = s } ≡ make_of 4 9 2 1 → ⊥
 unfolding make_of
-nine-partitions-accepted s same = passed_fails (ap (λ r. r.verdict) same)
+nine_partitions_accepted s same = passed_fails (ap (λ r. r.verdict) same)
 
-pub no-position-accepted : (s : State) → record { verdict = Passed; state = s } ≡ make_of 4 2 2 0 → ⊥
+pub no_position_accepted : (s : State) → record { verdict = Passed; state = s } ≡ make_of 4 2 2 0 → ⊥
 unfolding make_of
-no-position-accepted s same = passed_fails (ap (λ r. r.verdict) same)
+no_position_accepted s same = passed_fails (ap (λ r. r.verdict) same)
 
 -- every refusal has a number
 numbered : (refusal : Refusal) → 1 ≤ number_of refusal
@@ -56,23 +56,23 @@ numbered StateOutOfRange = omega arith
 numbered BrokenTables = omega arith
 
 -- 0 for a refusal, and any other number for a wait: "A wait is an accepted step."
-pub number-lost : (refusal : Refusal) (at : Place) → 0 ≡ answer_number (Refused refusal at) → ⊥
-number-lost refusal at same = omega (arith, numbered refusal)
+pub number_lost : (refusal : Refusal) (at : Place) → 0 ≡ answer_number (Refused refusal at) → ⊥
+number_lost refusal at same = omega (arith, numbered refusal)
 
-pub wait-numbered : (number t : ℕ) → 1 ≤ number → number ≡ answer_number (Waits (record { 0 = t })) → ⊥
-wait-numbered number t some same = omega arith
+pub wait_numbered : (number t : ℕ) → 1 ≤ number → number ≡ answer_number (Waits (record { 0 = t })) → ⊥
+wait_numbered number t some same = omega arith
 
 -- 0 for the place of another transaction than the first, and any other place for a wait
-pub place-lost : (refusal : Refusal) (i : ℕ) → 1 ≤ i
+pub place_lost : (refusal : Refusal) (i : ℕ) → 1 ≤ i
     → 0 ≡ answer_place (Refused refusal (record { transaction = i })) → ⊥
-place-lost refusal i some same = omega arith
+place_lost refusal i some same = omega arith
 
-pub wait-placed : (i t : ℕ) → 1 ≤ i → i ≡ answer_place (Waits (record { 0 = t })) → ⊥
-wait-placed i t some same = omega arith
+pub wait_placed : (i t : ℕ) → 1 ≤ i → i ≡ answer_place (Waits (record { 0 = t })) → ⊥
+wait_placed i t some same = omega arith
 
 -- 0 for the position that is waited for, and any other position for a refusal
-pub position-lost : (t : ℕ) → 1 ≤ t → 0 ≡ answer_position (Waits (record { 0 = t })) → ⊥
-position-lost t some same = omega arith
+pub position_lost : (t : ℕ) → 1 ≤ t → 0 ≡ answer_position (Waits (record { 0 = t })) → ⊥
+position_lost t some same = omega arith
 
-pub refusal-positioned : (t : ℕ) (refusal : Refusal) (at : Place) → 1 ≤ t → t ≡ answer_position (Refused refusal at) → ⊥
-refusal-positioned t refusal at some same = omega arith
+pub refusal_positioned : (t : ℕ) (refusal : Refusal) (at : Place) → 1 ≤ t → t ≡ answer_position (Refused refusal at) → ⊥
+refusal_positioned t refusal at some same = omega arith

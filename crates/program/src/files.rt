@@ -1,5 +1,5 @@
 // What the program reads. "A missing file counts as empty."
-ghost use Rattle.std.specs.Prelude.{◌≤◌, length, IfOk};
+ghost use Rattle.std.specs.Prelude.{◌≡◌, ◌≤◌, length, IfOk};
 
 use crate::Part;
 use std::fs::File;
@@ -28,15 +28,26 @@ fn all_of<F: Read + Seek>(mut file: F) -> Part<F> {
     }
 }
 
-// All of a file; nothing where it cannot be opened.
-pub fn whole<R: Files>(rt: &R, name: &str) -> Part<R::File> {
+fn nothing<F>() -> Part<F> {
+    Part {
+        file: None,
+        start: 0,
+        length: 0,
+    }
+}
+
+fn opened<R: Files>(rt: &R, name: &str) -> Part<R::File> {
     match File::open(rt, name) {
         Ok(file) => all_of(file),
-        Err(_) => Part {
-            file: None,
-            start: 0,
-            length: 0,
-        },
+        Err(_) => nothing(),
+    }
+}
+
+// All of a file; nothing where it cannot be opened. A name that is not UTF-8 names no file that can be.
+pub fn whole<R: Files>(rt: &R, name: &[u8]) -> Part<R::File> {
+    match str::from_utf8(name) {
+        Ok(text) => opened(rt, text),
+        Err(_) => nothing(),
     }
 }
 

@@ -139,9 +139,9 @@ pub fn run<R: Print, F: Read + Seek>(
 
 // The same with the three files themselves.
 pub fn run_files<R: Files + Print>(rt: &R, setup: Setup) -> io::Result<()> {
-    let mut stored = whole(rt, "records.bin");
-    let mut log = whole(rt, "log.bin");
-    let mut steps = whole(rt, "steps.bin");
+    let mut stored = whole(rt, b"records.bin");
+    let mut log = whole(rt, b"log.bin");
+    let mut steps = whole(rt, b"steps.bin");
     run(rt, setup, &mut stored, &mut log, &mut steps)?;
     close(stored);
     close(log);

@@ -1,15 +1,16 @@
 // Reading a run of bytes from a file that may end before it does.
 #![tactic(auto)]
 
-ghost use Rattle.std.specs.Prelude.{◌≤◌, length, IfOk};
+ghost use Rattle.std.specs.Prelude.{◌≡◌, ◌≤◌, length, IfOk};
 
 use std::io;
 use std::io::{ErrorKind, Read};
 
-// Reads until the space is full or the input ends, and answers how many bytes it put at the space's start. After an error
-// some of the space may be written.
+// Reads until the space is full or the input ends, and answers how many bytes it put at the space's start. The only
+// error is the input's own; after it some of the space may be written, and the input has been read to where it failed.
 pub fn fill<F: Read>(input: &mut F, space: &mut [u8]) -> io::Result<usize>
-    ensures { IfOk result (λ n. n ≤ length space.new) }
+    ensures within { IfOk result (λ n. n ≤ length space.new) }
+    ensures kept { length space.new ≡ length space.old }
 {
     let mut done = 0;
     for _ in 0..u64::MAX {
