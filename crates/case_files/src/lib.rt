@@ -66,6 +66,7 @@ pub fn meaning(b: [u8; 71]) -> Transaction {
     }
 }
 
+// The only error is that of the write, here and for a number.
 pub fn print_text(rt: &impl Print, bytes: &[u8]) -> io::Result<()> {
     rt.write_all(bytes)
 }

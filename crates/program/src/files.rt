@@ -64,8 +64,12 @@ fn place_of(start: usize) -> u64 {
     }
 }
 
-// The file of a part is to be read on from where the part starts.
+// The file of a part is to be read on from where the part starts. Where there is nothing to read, nothing is sought: such
+// a file may be none that can be.
 pub(crate) fn at_start<F: Seek>(part: &mut Part<F>) -> io::Result<()> {
+    if part.length == 0 {
+        return Ok(());
+    }
     let place = place_of(part.start);
     if let Some(file) = &mut part.file {
         file.seek(SeekFrom::Start(place))?;
@@ -89,9 +93,11 @@ fn read_on<F: Read>(part: &mut Part<F>, space: &mut [u8]) -> io::Result<usize>
     }
 }
 
-// Loads the start of a part, and answers how many bytes it put there. After an error some of the space may be written.
+// Loads the start of a part, and answers how many bytes it put there. The only error is that of the file's seek or read;
+// after it some of the space may be written, and it is as long as it was.
 pub fn load<F: Read + Seek>(part: &mut Part<F>, space: &mut [u8]) -> io::Result<usize>
-    ensures { IfOk result (λ n. n ≤ length space.new) }
+    ensures within { IfOk result (λ n. n ≤ length space.new) }
+    ensures kept { length space.new ≡ length space.old }
 {
     at_start(part)?;
     let count = least(part.length, space.len());

@@ -121,7 +121,7 @@ fn with_state<R: Print, F: Read + Seek>(
     with_records(rt, state, quiet, log, steps, records)
 }
 
-// All that the program does.
+// All that the program does. The only error is that of a read, a seek or a write; what was printed before it stays printed.
 pub fn run<R: Print, F: Read + Seek>(
     rt: &R,
     setup: Setup,
