@@ -74,7 +74,8 @@ pub made_ran_lem : (s : State) (log steps records results outcomes counts newest
     → ToldMet ran.number ran.tally outcomes counts r outcomes_exit counts_exit
     → ReturnedMet (made_ran s log steps records results outcomes counts) r records_exit results_exit outcomes_exit
     counts_exit
-made_ran_lem s log steps records results outcomes counts newest ran r records_exit newest_exit results_exit outcomes_exit
+made_ran_lem s log steps records results outcomes counts newest ran r records_exit newest_exit results_exit
+    outcomes_exit
     counts_exit own met told = (
       told.0 ∙ ap (λ (x : Ran). x.number) batch.0,
       (

@@ -1,4 +1,5 @@
-// The functions that have the newest-version and the version table. Each does little, since the proof of a function that
+// The functions that have the newest-version and the version table. Each does little, since the proof of a function
+// that
 // has a slice of structs grows with what it lends and calls.
 ghost use Rattle.std.specs.Prelude.{◌≡◌, ◌≤◌, length, replicate};
 ghost use Rattle.terms.specs.Reserved.{no_slot};

@@ -111,7 +111,8 @@ log_agrees (t ∷ log) records declared =
     let agrees : OneStep t records (decision_on t records) = step_agrees t records declared.0 in
     let still : AllDeclared (length (records_after t records)) log =
     rw (length_after t records declared.0) declared.1 in
-    ap (λ outcome. with_first outcome (values_on t records) (decided_run log (stored t (decision_on t records) records)))
+    ap (λ outcome. with_first outcome (values_on t records)
+    (decided_run log (stored t (decision_on t records) records)))
     agrees.same_outcome
     ∙ ap (λ after. with_first (outcome_on t records) (values_on t records) (decided_run log after)) agrees.same_records
     ∙ ap (with_first (outcome_on t records) (values_on t records)) (log_agrees log (records_after t records) still)

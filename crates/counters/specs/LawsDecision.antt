@@ -1,6 +1,7 @@
 -- What every decision has, whatever meaning and values it is made from: four contents and four marks; contents 0 where
 -- a write is carried; past the write count contents 0, and nothing carried.
-use Rattle.std.specs.Prelude.{◌≡◌, ℕ, zero, suc, ◌<◌, ◌≤◌, Bool, true, false, not, ◌&&◌, List, [], ◌∷◌, length, get_or, nat_lt, slice_index, slice_index_or, slice_set, refl}
+use Rattle.std.specs.Prelude.{◌≡◌, ℕ, zero, suc, ◌<◌, ◌≤◌, Bool, true, false, not, ◌&&◌}
+use Rattle.std.specs.Prelude.{List, [], ◌∷◌, length, get_or, nat_lt, slice_index, slice_index_or, slice_set, refl}
 use Rattle.std.proofs.Math.Path.{sym}
 use Rattle.std.proofs.Common.{ap, ◌∙◌, arith, get_or-set_same, lt-ltb, le-ltb}
 use Rattle.std.proofs.Math.Decide.{ℕ_discrete, dec_lt}
@@ -17,7 +18,8 @@ use Rattle.counters.specs.declared.Outcome.TheVariants.{Aborted}
 
 -- the marks, one by one
 unreached_at : (writecount : ℕ) (reached : List Bool) (j : ℕ) → j < 4
-    → slice_index_or (unreached writecount reached) j false ≡ (nat_lt j writecount && not (slice_index_or reached j false))
+    → slice_index_or (unreached writecount reached) j false
+    ≡ (nat_lt j writecount && not (slice_index_or reached j false))
 unreached_at writecount reached zero below = refl
 unreached_at writecount reached (suc zero) below = refl
 unreached_at writecount reached (suc (suc zero)) below = refl
@@ -44,7 +46,8 @@ module _ (t : Transaction) where
   ShapedAfter (goes_on copy) = CopyShape copy
   ShapedAfter aborts = Unit {0}
 
-  written_shaped : (copy : WorkingCopy) → CopyShape copy → (r number : ℕ) → CopyShape (written (sets_of t) copy r number)
+  written_shaped : (copy : WorkingCopy) → CopyShape copy → (r number : ℕ)
+      → CopyShape (written (sets_of t) copy r number)
   unfolding written
   written_shaped copy shaped r number =
       record {

@@ -1,6 +1,7 @@
 -- While a transaction is decided, its working copy follows the copy of the records that the one-by-one run changes:
 -- action by action the two say the same of each record, and they abort at the same action.
-use Rattle.std.specs.Prelude.{◌≡◌, ℕ, zero, suc, ◌<◌, true, false, cond, List, [], ◌∷◌, length, slice_index, slice_index_or, slice_set, refl}
+use Rattle.std.specs.Prelude.{◌≡◌, ℕ, zero, suc, ◌<◌, true, false, cond}
+use Rattle.std.specs.Prelude.{List, [], ◌∷◌, length, slice_index, slice_index_or, slice_set, refl}
 use Rattle.std.proofs.Common.{sym, ap, ◌∙◌, arith, get_or-set_same, get_or-set_other}
 use Rattle.std.proofs.Math.Decide.{ℕ_discrete}
 use Rattle.std.proofs.Math.ListN.{length-set}
@@ -36,7 +37,8 @@ module _ (t : Transaction) (start : List ℕ) where
     pub reads_seen : (r : ℕ) → read_at r < 4 → slice_index copy.values (read_at r) ≡ slice_index records r
     pub writes_made : (r : ℕ)
         → slice_index records r
-        ≡ cond (slice_index_or copy.reached (write_at r) false) (slice_index copy.contents (write_at r)) (slice_index start r)
+        ≡ cond (slice_index_or copy.reached (write_at r) false) (slice_index copy.contents (write_at r))
+        (slice_index start r)
 
   holds_same : {copy : WorkingCopy} {records : List ℕ} → Follows copy records → (r : ℕ) → read_at r < 4
       → contents_in (sets_of t) copy r ≡ slice_index records r
@@ -60,7 +62,8 @@ module _ (t : Transaction) (start : List ℕ) where
       inside = omega (arith, follows.as_long)
 
       seen : (q : ℕ) → Dec (q ≡ r) → read_at q < 4
-          → slice_index (slice_set copy.values (read_at r) number) (read_at q) ≡ slice_index (slice_set records r number) q
+          → slice_index (slice_set copy.values (read_at r) number) (read_at q)
+          ≡ slice_index (slice_set records r number) q
       seen q (yes same) there =
           let at_r : read_at r < 4 = rw (← same) there in
           let within : read_at r < length copy.values = omega (arith, follows.four_values) in

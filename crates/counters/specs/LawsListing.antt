@@ -14,7 +14,8 @@ use Rattle.counters.specs.Storing.{decided_run}
 
 pub listing_accepted : AllAccepted 4 0 (map encode listing)
 unfolding
-    listing encode set_bytes action_bytes bytes_of number_in entry_verdict malformed nonzero action_nonzero no_such_record
+    listing encode set_bytes action_bytes bytes_of number_in entry_verdict malformed nonzero action_nonzero
+    no_such_record
     not_ascending undeclared_read undeclared_write some_of uses_of
 listing_accepted = (refl, (refl, (refl, (refl, tt))))
 

@@ -1,5 +1,6 @@
 -- Laws of the place of a record in a set.
-use Rattle.std.specs.Prelude.{◌≡◌, ℕ, zero, suc, ◌<◌, Bool, true, false, cond, not, ◌&&◌, ◌||◌, List, [], ◌∷◌, get_or, ◌==◌, ◌≢◌, nat_lt, slice_index, slice_index_or, refl}
+use Rattle.std.specs.Prelude.{◌≡◌, ℕ, zero, suc, ◌<◌, Bool, true, false, cond, not, ◌&&◌}
+use Rattle.std.specs.Prelude.{◌||◌, List, [], ◌∷◌, get_or, ◌==◌, ◌≢◌, nat_lt, slice_index, slice_index_or, refl}
 use Rattle.std.proofs.Common.{sym, ap, ◌∙◌, arith, ltb-true, eqb-true, lt-ltb, eq-eqb}
 use Rattle.std.proofs.lemmas.Bool.{not-false}
 use Rattle.packed.specs.Records.{unlisted}

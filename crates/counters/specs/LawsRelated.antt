@@ -1,6 +1,7 @@
 -- Two memories side by side: where they hold the same of every record that is read, and stay related when a record that
 -- is written becomes a number in both, actions do the same in both.
-use Rattle.std.specs.Prelude.{◌≡◌, ℕ, zero, suc, ◌-◌, ◌<◌, Bool, true, false, List, [], ◌∷◌, take, nat_lt, slice_index_or}
+use Rattle.std.specs.Prelude.{◌≡◌, ℕ, zero, suc, ◌-◌, ◌<◌, Bool, true}
+use Rattle.std.specs.Prelude.{false, List, [], ◌∷◌, take, nat_lt, slice_index_or}
 use Rattle.std.proofs.Common.{arith}
 use Rattle.packed.specs.Encode.{fields_of}
 use Rattle.packed.specs.Kinds.{uses_of}

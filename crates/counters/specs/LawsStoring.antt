@@ -1,6 +1,9 @@
 -- Laws of storing a decision.
-use Rattle.std.specs.Prelude.{◌≡◌, ℕ, zero, suc, ◌+◌, ◌<◌, ◌≤◌, Bool, true, false, cond, not, List, [], ◌∷◌, length, get_or, ◌≢◌, slice_index, slice_index_or, slice_set, refl}
-use Rattle.std.proofs.Common.{sym, ap, ◌∙◌, arith, suc-add, add-suc, add-zero, zero-add, length-set, get_or-set_same, get_or-set_other, get_or-take, length-take-le, lt-ltb}
+use Rattle.std.specs.Prelude.{◌≡◌, ℕ, zero, suc, ◌+◌, ◌<◌, ◌≤◌, Bool, true, false, cond}
+use Rattle.std.specs.Prelude.{not, List, [], ◌∷◌, length, get_or, ◌≢◌, slice_index, slice_index_or, slice_set, refl}
+use Rattle.std.proofs.Common.{sym, ap, ◌∙◌, arith, suc-add}
+use Rattle.std.proofs.Common.{add-suc, add-zero, zero-add, length-set, get_or-set_same}
+use Rattle.std.proofs.Common.{get_or-set_other, get_or-take, length-take-le, lt-ltb}
 use Rattle.std.proofs.Math.Decide.{ℕ_discrete, dec_lt}
 use Rattle.std.proofs.Math.ListN.{get_or-eq_default}
 use Rattle.packed.specs.declared.Transaction.{Transaction}
@@ -60,7 +63,8 @@ module _ (decision : Decision) where
   store_there : (writes : List ℕ) (j : ℕ) (records : List ℕ) (q k : ℕ) → k < length writes → slice_index writes k ≡ q
       → ((i : ℕ) → i < length writes → slice_index writes i ≡ q → i ≡ k) → q < length records
       → slice_index (store_from decision writes j records) q
-      ≡ cond (slice_index_or decision.carried (j + k) false) (slice_index records q) (slice_index decision.contents (j + k))
+      ≡ cond (slice_index_or decision.carried (j + k) false) (slice_index records q)
+      (slice_index decision.contents (j + k))
   store_there [] j records q k below there once inside = absurd (omega arith)
   store_there (r ∷ writes) j records q zero below there once inside =
       rw (add-zero j, ← there)
@@ -70,13 +74,15 @@ module _ (decision : Decision) where
   store_there (r ∷ writes) j records q (suc k) below there once inside =
       let other : q ≡ r → ⊥ =
       λ same. let wrong : 0 ≡ suc k = once 0 (omega arith) (sym same) in omega arith in
-      let kept = store_other (slice_index_or decision.carried j false) records r q (slice_index decision.contents j) other in
+      let kept = store_other (slice_index_or decision.carried j false) records r q (slice_index decision.contents j)
+      other in
       let longer = length_store (r ∷ []) j records in
       rw (add-suc j k, ← suc-add j k)
       (store_there writes (suc j) _ q k (omega arith) there
       (λ i small found. let up : suc i ≡ suc k = once (suc i) (omega arith) found in omega arith)
       (omega arith)
-      ∙ ap (λ x. cond (slice_index_or decision.carried (suc j + k) false) x (slice_index decision.contents (suc j + k))) kept)
+      ∙ ap (λ x. cond (slice_index_or decision.carried (suc j + k) false) x
+      (slice_index decision.contents (suc j + k))) kept)
 
 -- a declared write's mark: carried where it was not reached
 carried_at : (writecount : ℕ) (reached : List Bool) (j : ℕ) → j < 4 → j < writecount
@@ -151,12 +157,14 @@ module _ (t : Transaction) (records : List ℕ) (declared : Declared (length rec
   pub stored_at : (decision : Decision) (reached : List Bool) → length reached ≡ 4
       → decision.carried ≡ unreached t.writecount reached → (q : ℕ)
       → slice_index (stored t decision records) q
-      ≡ cond (slice_index_or reached (write_at q) false) (slice_index decision.contents (write_at q)) (slice_index records q)
+      ≡ cond (slice_index_or reached (write_at q) false) (slice_index decision.contents (write_at q))
+      (slice_index records q)
   stored_at decision reached four carried q = cases (dec_lt (write_at q) 4)
     where
       cases : Dec (write_at q < 4)
           → slice_index (stored t decision records) q
-          ≡ cond (slice_index_or reached (write_at q) false) (slice_index decision.contents (write_at q)) (slice_index records q)
+          ≡ cond (slice_index_or reached (write_at q) false) (slice_index decision.contents (write_at q))
+          (slice_index records q)
       cases (yes below) =
           let within = (at_place t.writes t.writecount q below).1 in
           let marked =

@@ -55,7 +55,8 @@ module _ (t : Transaction) where
       long_other = length-set other.values (read_at r) number ∙ same.other_four
 
       at : (i : ℕ) → Dec (i ≡ read_at r) → Dec (i < 4) → i < t.readcount
-          → slice_index (slice_set one.values (read_at r) number) i ≡ slice_index (slice_set other.values (read_at r) number) i
+          → slice_index (slice_set one.values (read_at r) number) i
+          ≡ slice_index (slice_set other.values (read_at r) number) i
       at i (no differs) _ within =
           get_or-set_other one.values (read_at r) i number 0 differs
           ∙ same.values_same i within

@@ -8,7 +8,11 @@ use Rattle.counters.specs.declared.Outcome.TheVariants.{Committed, Aborted}
 
 -- the records as a memory: record r is the r-th number
 abbrev pub records_memory : Memory (List ℕ)
-records_memory = record { holds = λ records r. slice_index records r; becomes = λ records r number. slice_set records r number }
+records_memory =
+    record {
+      holds = λ records r. slice_index records r;
+      becomes = λ records r number. slice_set records r number;
+    }
 
 -- the declared reads: those within the read count
 abbrev pub reads_of : Transaction → List ℕ

@@ -1,5 +1,6 @@
 -- The memory that a transaction's actions work on while it is decided: its own copy of the values read.
-use Rattle.std.specs.Prelude.{ℕ, Bool, true, false, cond, ◌&&◌, List, [], ◌∷◌, set, ◌==◌, nat_lt, slice_index, slice_set}
+use Rattle.std.specs.Prelude.{ℕ, Bool, true, false, cond, ◌&&◌, List}
+use Rattle.std.specs.Prelude.{[], ◌∷◌, set, ◌==◌, nat_lt, slice_index, slice_set}
 use Rattle.packed.specs.declared.Transaction.{Transaction}
 use Rattle.counters.specs.Actions.{Memory}
 use Rattle.counters.specs.declared.working.Sets.{Sets}

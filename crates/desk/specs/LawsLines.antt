@@ -1,6 +1,8 @@
 -- Pushing bytes, numbers' digits and numbers, and what a line then holds.
-use Rattle.std.specs.Prelude.{ℕ, zero, suc, ◌+◌, ◌-◌, ◌/◌, ◌<◌, ◌≤◌, Bool, true, false, cond, List, [], ◌∷◌, ◌++◌, ◌≡◌, refl, ltb, length, take, get_or, replicate, set}
-use Rattle.std.proofs.Common.{append-nil, append_assoc, ap, sym, ◌∙◌, add-one, arith, ltb-true, ltb-false, lt-ltb, le-ltb, le-leb, length-append, length-take, take-suc, take_all}
+use Rattle.std.specs.Prelude.{ℕ, zero, suc, ◌+◌, ◌-◌, ◌/◌, ◌<◌, ◌≤◌, Bool, true, false, cond}
+use Rattle.std.specs.Prelude.{List, [], ◌∷◌, ◌++◌, ◌≡◌, refl, ltb, length, take, get_or, replicate, set}
+use Rattle.std.proofs.Common.{append-nil, append_assoc, ap, sym, ◌∙◌, add-one, arith, ltb-true}
+use Rattle.std.proofs.Common.{ltb-false, lt-ltb, le-ltb, le-leb, length-append, length-take, take-suc, take_all}
 use Rattle.std.proofs.lemmas.Bool.{lt-leb}
 use Rattle.std.proofs.Math.Seq.{take-append_seam, set-append_seam, append_snoc}
 use Rattle.desk.specs.Text.{digit, digits, decimal, spaced}

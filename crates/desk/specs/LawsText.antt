@@ -1,5 +1,6 @@
 -- Every line fits in its 128 bytes, and its parts, pushed one after the other, are the line.
-use Rattle.std.specs.Prelude.{ℕ, zero, suc, ◌+◌, ◌*◌, ◌/◌, ◌≤◌, Bool, true, false, cond, List, [], ◌∷◌, ◌++◌, ◌≡◌, ltb, length}
+use Rattle.std.specs.Prelude.{ℕ, zero, suc, ◌+◌, ◌*◌, ◌/◌, ◌≤◌, Bool, true}
+use Rattle.std.specs.Prelude.{false, cond, List, [], ◌∷◌, ◌++◌, ◌≡◌, ltb, length}
 use Rattle.std.proofs.Common.{ap, sym, ◌∙◌, arith, length-append}
 use Rattle.counters.specs.declared.Outcome.{Outcome}
 use Rattle.counters.specs.declared.Outcome.TheVariants.{Committed, Aborted}
@@ -64,10 +65,13 @@ counts_fits steps refused waits =
     let one = both steps_word (decimal steps) 6 20 (omega arith) (few_decimal steps) in
     let first = both (steps_word ++ decimal steps) refused_word 26 9 one (omega arith) in
     let two = both (steps_word ++ decimal steps ++ refused_word) (decimal refused) 35 20 first (few_decimal refused) in
-    let second = both (steps_word ++ decimal steps ++ refused_word ++ decimal refused) waits_word 55 7 two (omega arith) in
-    let three = both (steps_word ++ decimal steps ++ refused_word ++ decimal refused ++ waits_word) (decimal waits) 62 20
+    let second = both (steps_word ++ decimal steps ++ refused_word
+    ++ decimal refused) waits_word 55 7 two (omega arith) in
+    let three = both (steps_word ++ decimal steps ++ refused_word ++ decimal refused
+    ++ waits_word) (decimal waits) 62 20
     second (few_decimal waits) in
-    let all = both (steps_word ++ decimal steps ++ refused_word ++ decimal refused ++ waits_word ++ decimal waits) new_line
+    let all = both (steps_word ++ decimal steps ++ refused_word ++ decimal refused ++ waits_word
+    ++ decimal waits) new_line
     82 1 three (omega arith) in
     omega (arith, all)
 
@@ -141,7 +145,8 @@ counts_made steps refused waits =
     ∙ held (counts_line steps refused waits) (counts_fits steps refused waits)
 
 pub refused_made : (number : ℕ)
-    → pushed_all (pushed_all (pushed_all (line_of []) refused_first) (decimal number)) new_line ≡ line_of (refused_line number)
+    → pushed_all (pushed_all (pushed_all (line_of []) refused_first) (decimal number)) new_line
+    ≡ line_of (refused_line number)
 unfolding refused_line
 refused_made number =
     sym

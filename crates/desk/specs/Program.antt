@@ -1,5 +1,6 @@
 -- What the program prints, from the bytes of records.bin, log.bin and steps.bin. "A missing file counts as empty."
-use Rattle.std.specs.Prelude.{ℕ, zero, suc, ◌+◌, ◌*◌, ◌/◌, ◌%◌, cond, List, [], ◌∷◌, ◌++◌, ltb, eqb, length, get_or, take, drop, replicate}
+use Rattle.std.specs.Prelude.{ℕ, zero, suc, ◌+◌, ◌*◌, ◌/◌, ◌%◌, cond, List, []}
+use Rattle.std.specs.Prelude.{◌∷◌, ◌++◌, ltb, eqb, length, get_or, take, drop, replicate}
 use Rattle.terms.specs.Refusals.{number_of}
 use Rattle.terms.specs.Reserved.{no_slot}
 use Rattle.terms.specs.declared.refusal.Verdict.{Verdict}

@@ -1,6 +1,7 @@
 -- "Advance, worker w. One of: read the next declared read; with none left, decide; carry the next carried write; fill
 -- the next write."
-use Rattle.std.specs.Prelude.{ℕ, ◌+◌, ◌*◌, Bool, true, false, ◌||◌, cond, List, [], ◌∷◌, ltb, leb, eqb, length, get_or, set}
+use Rattle.std.specs.Prelude.{ℕ, ◌+◌, ◌*◌, Bool, true, false, ◌||◌, cond, List}
+use Rattle.std.specs.Prelude.{[], ◌∷◌, ltb, leb, eqb, length, get_or, set}
 use Rattle.terms.specs.Refusals.{refuse_if, place_of}
 use Rattle.terms.specs.declared.refusal.Place.{Place}
 use Rattle.terms.specs.declared.refusal.Refusal.{Refusal}
@@ -231,7 +232,8 @@ answered_by (Refused refusal place) s after = refuse_by s refusal place
 
 abbrev pub put_four : List ℕ → ℕ → List ℕ → List ℕ
 put_four results at values =
-    set (set (set (set results at (get_or values 0 0)) (at + 1) (get_or values 1 0)) (at + 2) (get_or values 2 0)) (at + 3)
+    set (set (set (set results at (get_or values 0 0)) (at + 1) (get_or values 1 0)) (at + 2) (get_or values 2 0))
+    (at + 3)
     (get_or values 3 0)
 
 abbrev pub carried_out : Move → State → ℕ → ℕ → List Version → List ℕ → Advanced

@@ -1,5 +1,6 @@
 -- Refusal 14 as it is looked for in lent transactions and workers.
-use Rattle.std.specs.Prelude.{ℕ, zero, suc, ◌+◌, ◌-◌, ◌≤◌, ◌<◌, Bool, true, false, ◌&&◌, ◌||◌, not, cond, List, [], ◌∷◌, ◌≡◌, refl, T, ltb, leb, eqb, length, get_or, replicate}
+use Rattle.std.specs.Prelude.{ℕ, zero, suc, ◌+◌, ◌-◌, ◌≤◌, ◌<◌, Bool, true, false, ◌&&◌, ◌||◌, not}
+use Rattle.std.specs.Prelude.{cond, List, [], ◌∷◌, ◌≡◌, refl, T, ltb, leb, eqb, length, get_or, replicate}
 use Rattle.std.proofs.Common.{sym, ap, ◌∙◌, not-suc-le-zero, le_of_suc-le-suc, arith, lt-ltb, le-ltb}
 use Rattle.std.proofs.Math.Decide.{dec_lt}
 use Rattle.terms.specs.Reserved.{no_end}
@@ -123,7 +124,8 @@ abbrev pub unheld_below : List Row → List Worker → ℕ → Bool
 unheld_below rows crew zero = false
 unheld_below rows crew (suc i) = unheld_below rows crew i || not_held_by crew i (row_of rows i).progress
 
-same_holder : (i w : ℕ) (crew : List Worker) (k : ℕ) → held_by (worker_of crew k) w i ≡ held_by (get_or crew k no_worker) w i
+same_holder : (i w : ℕ) (crew : List Worker) (k : ℕ)
+    → held_by (worker_of crew k) w i ≡ held_by (get_or crew k no_worker) w i
 same_holder i w [] k = refl
 same_holder i w (worker ∷ crew) zero = refl
 same_holder i w (worker ∷ crew) (suc k) = same_holder i w crew k
@@ -230,7 +232,8 @@ idle_at (suc count) zero = refl
 idle_at (suc count) (suc w) = idle_at count w
 
 -- what the numbers have that are not out of range
-pub alone_in_range : (numbers : Numbers) (wrong : Bool) → out_of_range_by numbers wrong ≡ false → InRange (alone_of numbers)
+pub alone_in_range : (numbers : Numbers) (wrong : Bool) → out_of_range_by numbers wrong ≡ false
+    → InRange (alone_of numbers)
 alone_in_range numbers wrong none =
     let s = alone_of numbers in
     in_range s

@@ -1,5 +1,6 @@
 -- Laws of advancing with lent transactions and workers: the way that the code goes.
-use Rattle.std.specs.Prelude.{ℕ, zero, suc, ◌*◌, Bool, true, false, ◌||◌, cond, List, [], ◌∷◌, ◌≡◌, leb, length, get_or, set}
+use Rattle.std.specs.Prelude.{ℕ, zero, suc, ◌*◌, Bool, true, false, ◌||◌, cond}
+use Rattle.std.specs.Prelude.{List, [], ◌∷◌, ◌≡◌, leb, length, get_or, set}
 use Rattle.std.proofs.Math.Path.{refl, ap}
 use Rattle.std.proofs.Common.{◌∙◌, le_refl, arith, leb-false}
 use Rattle.terms.specs.Refusals.{refuse_if}
@@ -140,7 +141,8 @@ module _ (numbers : Numbers) (rows : List Row) (crew : List Worker) (w : ℕ) (l
 
   abbrev plan : Aim
   plan =
-      aim_by (some_below 8 (worker_wrong whole) || some_below 64 (row_wrong whole)) numbers w (worker_of crew w) log newest
+      aim_by (some_below 8 (worker_wrong whole) || some_below 64 (row_wrong whole)) numbers w (worker_of crew w) log
+      newest
       records versions results
 
   aim_same : plan ≡ aim_of whole w log newest records versions results

@@ -1,5 +1,6 @@
 -- Laws of a claim on lent transactions and workers: the way that the code goes.
-use Rattle.std.specs.Prelude.{ℕ, zero, suc, ◌<◌, Bool, true, false, ◌||◌, not, List, [], ◌∷◌, ◌≡◌, refl, leb, length, get_or, set}
+use Rattle.std.specs.Prelude.{ℕ, zero, suc, ◌<◌, Bool, true, false, ◌||◌, not}
+use Rattle.std.specs.Prelude.{List, [], ◌∷◌, ◌≡◌, refl, leb, length, get_or, set}
 use Rattle.std.proofs.Common.{sym, ◌∙◌, le_refl, leb-false}
 use Rattle.terms.specs.Refusals.{place_of}
 use Rattle.terms.specs.declared.refusal.Refusal.{Refusal}

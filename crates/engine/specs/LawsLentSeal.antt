@@ -1,5 +1,6 @@
 -- Laws of the seal with lent transactions and workers: the way that the code goes.
-use Rattle.std.specs.Prelude.{ℕ, zero, suc, ◌+◌, ◌*◌, Bool, false, ◌||◌, not, cond, List, [], ◌≡◌, eqb, length, replicate}
+use Rattle.std.specs.Prelude.{ℕ, zero, suc, ◌+◌, ◌*◌, Bool, false, ◌||◌}
+use Rattle.std.specs.Prelude.{not, cond, List, [], ◌≡◌, eqb, length, replicate}
 use Rattle.std.proofs.Math.Path.{refl}
 use Rattle.std.proofs.Common.{ap, ◌∙◌, arith, lt-ltb, le-ltb}
 use Rattle.terms.specs.Refusals.{refuse_if}

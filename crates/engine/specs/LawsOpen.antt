@@ -100,7 +100,8 @@ module _ (s : State) (log newest : List ℕ) (versions : List Version) (results 
   unfolding open_of
   open_stepped = go said
     where
-      go : (v : Verdict) → opened_as s (opening_by v (entries_in log)) ≡ (opened_by v s log newest versions results).stepped
+      go : (v : Verdict)
+          → opened_as s (opening_by v (entries_in log)) ≡ (opened_by v s log newest versions results).stepped
       go Accepted = refl
       go (Refused refusal place) = refl
 

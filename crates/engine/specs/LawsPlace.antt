@@ -142,7 +142,8 @@ module _ (s : State) (p : ℕ) (log newest : List ℕ) (versions : List Version)
       go Accepted = refl
       go (Refused refusal place) = refl
 
-  place_plans : writes_on (placing_of s p log newest (length versions)) tables ≡ (place_of s p log newest versions).plans
+  place_plans : writes_on (placing_of s p log newest (length versions)) tables
+      ≡ (place_of s p log newest versions).plans
   unfolding place_of
   place_plans = go said
     where
@@ -162,7 +163,8 @@ module _ (s : State) (p : ℕ) (log newest : List ℕ) (versions : List Version)
           }
 
       one : (plans : Plans) (j : ℕ) → write_on plans (write j)
-          ≡ cond (written_in s.partitions p t j) (place_write (position_of s i) (slot_of i j) (write_of t j) plans) plans
+          ≡ cond (written_in s.partitions p t j) (place_write (position_of s i) (slot_of i j) (write_of t j) plans)
+          plans
       one plans j = write_on_lem plans (written_in s.partitions p t j) (write_of t j) (slot_of i j) (position_of s i)
 
       not_one : ℕ → Write

@@ -38,7 +38,8 @@ quiet_look worker k (Contents contents) = (never, never)
 quiet_look worker k (NotYet position) = (never, never)
 quiet_look worker k Unsound = (λ refused. (refl, refl), λ refused. (refl, refl))
 
-quiet_decision : (worker : Worker) (writecount : ℕ) (decision : Decision) → Quiet (decides_by worker writecount decision)
+quiet_decision : (worker : Worker) (writecount : ℕ) (decision : Decision)
+    → Quiet (decides_by worker writecount decision)
 quiet_decision worker writecount decision = go (eqb writecount 0)
   where
     go : (none : Bool)

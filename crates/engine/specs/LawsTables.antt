@@ -1,5 +1,6 @@
 -- Laws of emptying a table.
-use Rattle.std.specs.Prelude.{ℕ, zero, suc, ◌+◌, ◌≤◌, Bool, true, false, cond, List, [], ◌∷◌, ◌≡◌, refl, length, set, replicate}
+use Rattle.std.specs.Prelude.{ℕ, zero, suc, ◌+◌, ◌≤◌, Bool, true, false, cond}
+use Rattle.std.specs.Prelude.{List, [], ◌∷◌, ◌≡◌, refl, length, set, replicate}
 use Rattle.std.proofs.Common.{ap, sym, ◌∙◌, add-one, arith}
 use Rattle.versions.specs.Entry.{empty_entry}
 use Rattle.versions.specs.Table.{clear_of}

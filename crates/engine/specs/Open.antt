@@ -46,7 +46,8 @@ entries_in log = length log / 88
 -- "each transaction in turn 4 to 8": so many of them, from an index on
 abbrev pub each_in_turn : ℕ → List ℕ → ℕ → ℕ → Verdict
 each_in_turn n log zero index = Accepted
-each_in_turn n log (suc count) index = and_then (unpack_at_of n log index).verdict (each_in_turn n log count (suc index))
+each_in_turn n log (suc count) index =
+    and_then (unpack_at_of n log index).verdict (each_in_turn n log count (suc index))
 
 -- "Opening checks 1, 14, 9, 2, 3, then each transaction in turn 4 to 8."
 unfoldable pub open_verdict : State → List ℕ → ℕ → ℕ → ℕ → Verdict

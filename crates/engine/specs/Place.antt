@@ -1,7 +1,8 @@
 -- "Place, partition p. Takes the partition's next transaction. For each write in that partition, ascending: begin is
 -- its position, end 2^64 − 1, previous is the newest slot, not produced; a preceding entry's end becomes this
 -- position; the new slot becomes newest. A transaction with no such write only advances the count."
-use Rattle.std.specs.Prelude.{ℕ, zero, suc, ◌+◌, ◌*◌, ◌%◌, Bool, ◌&&◌, ◌||◌, not, cond, List, ltb, leb, eqb, length, get_or, set}
+use Rattle.std.specs.Prelude.{ℕ, zero, suc, ◌+◌, ◌*◌, ◌%◌, Bool, ◌&&◌, ◌||◌}
+use Rattle.std.specs.Prelude.{not, cond, List, ltb, leb, eqb, length, get_or, set}
 use Rattle.terms.specs.Refusals.{refuse_if}
 use Rattle.terms.specs.Reserved.{no_slot}
 use Rattle.terms.specs.declared.refusal.Refusal.TheVariants.{

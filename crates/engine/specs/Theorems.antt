@@ -97,7 +97,8 @@ refused_place s p log newest versions =
 pub refused_claim : (s : State) (w i : ℕ) → is_refused (claim_of s w i).answer ≡ true → (claim_of s w i).state ≡ s
 unfolding claim_of
 refused_claim s w i =
-    go (out_of_range s) (not_running s) (no_such_claim s w i) (not (is_idle (worker_at s w))) (not (is_unprocessed (row_at s i)))
+    go (out_of_range s) (not_running s) (no_such_claim s w i) (not (is_idle (worker_at s w)))
+    (not (is_unprocessed (row_at s i)))
   where
     chain : Bool → Bool → Bool → Bool → Bool → Stepped
     chain range moment party busy taken =
@@ -145,7 +146,8 @@ pub refused_seal : (s : State) (records newest : List ℕ) (versions : List Vers
     × ((seal_of s records newest versions).versions ≡ versions)
 unfolding seal_of
 refused_seal s records newest versions =
-    go (seal_verdict s (length records) (length newest) (length versions) (newest_sound_of versions newest (4 * s.size)))
+    go (seal_verdict s (length records) (length newest) (length versions)
+    (newest_sound_of versions newest (4 * s.size)))
   where
     go : (v : Verdict) → is_refused (sealed_by v s records newest versions).stepped.answer ≡ true
         → ((sealed_by v s records newest versions).stepped.state ≡ s)
@@ -160,11 +162,13 @@ refused_seal s records newest versions =
 -- Unpacking an entry can itself refuse by 1 and by 2. In a call it does not: a call that is refused by 1 was lent a
 -- table of a wrong length, and one that is refused by 2 has a log of a wrong length.
 pub open_one_two : (s : State) (log : List ℕ) (newest versions results : ℕ)
-    → (verdict_number (open_verdict s log newest versions results) ≡ 1 → wrong_for_opening s newest versions results ≡ true)
+    → (verdict_number (open_verdict s log newest versions results) ≡ 1
+    → wrong_for_opening s newest versions results ≡ true)
     × (verdict_number (open_verdict s log newest versions results) ≡ 2 → wrong_batch_length (length log) ≡ true)
 unfolding open_verdict
 open_one_two s log newest versions results =
-    go (wrong_for_opening s newest versions results) (out_of_range s) (not (no_batch s)) (wrong_batch_length (length log))
+    go (wrong_for_opening s newest versions results) (out_of_range s) (not (no_batch s))
+    (wrong_batch_length (length log))
     (ltb no_end (s.next.0 + entries_in log)) (each_in_turn s.records log (entries_in log) 0)
     (λ inside. turns_numbers s.records log (entries_in log) 0 (records_right s inside) (omega arith))
   where
@@ -248,7 +252,8 @@ pub advance_one_two : (s : State) (w : ℕ) (log : List ℕ) (records newest ver
     → not_of (length log) (88 * s.size) ≡ true)
 unfolding advance_verdict step_chain
 advance_one_two s w log records newest versions results =
-    step_numbers (wrong_for_advance s records newest versions results) (out_of_range s) (not_running s) (leb s.workers w)
+    step_numbers (wrong_for_advance s records newest versions results) (out_of_range s) (not_running s)
+    (leb s.workers w)
     (is_idle (worker_at s w)) WorkerBusyOrIdle (not_of (length log) (88 * s.size))
     (work_fits s (worker_at s w) log) (omega arith)
     (λ inside there busy whole.

@@ -23,7 +23,8 @@ answer_number_unique answer a b = same
 pub answer_place_unique : (answer : Answer) (a b : ℕ) → a ≡ answer_place answer → b ≡ answer_place answer → a ≡ b
 answer_place_unique answer a b = same
 
-pub answer_position_unique : (answer : Answer) (a b : ℕ) → a ≡ answer_position answer → b ≡ answer_position answer → a ≡ b
+pub answer_position_unique : (answer : Answer) (a b : ℕ) → a ≡ answer_position answer → b ≡ answer_position answer
+    → a ≡ b
 answer_position_unique answer a b = same
 
 -- The calls that are lent tables: two results, with what each lent table holds at exit, that satisfy the contract are

@@ -1,5 +1,6 @@
 -- The contracts of the steps on lent transactions and workers, and that each determines its step's whole result: two
--- results, with what each lent run and table holds at exit, that satisfy it are equal, each to each. s is the state that
+-- results, with what each lent run and table holds at exit, that satisfy it are equal, each to each. s is the state
+-- that
 -- numbers, transactions and workers make together.
 use Rattle.std.specs.Prelude.{ℕ, List, ◌≡◌}
 use Rattle.terms.specs.Unique.{same}
@@ -19,7 +20,8 @@ abbrev pub LentPlaceMet : Placed → Counted → List ℕ → List Version → T
 LentPlaceMet placed r newest versions =
     (r ≡ counted_of placed.stepped) × ((newest ≡ placed.plans.newest) × (versions ≡ placed.plans.versions))
 
-pub lent_place_unique : (placed : Placed) (a b : Counted) (a_newest b_newest : List ℕ) (a_versions b_versions : List Version)
+pub lent_place_unique : (placed : Placed) (a b : Counted) (a_newest b_newest : List ℕ)
+    (a_versions b_versions : List Version)
     → LentPlaceMet placed a a_newest a_versions → LentPlaceMet placed b b_newest b_versions
     → (a ≡ b) × ((a_newest ≡ b_newest) × (a_versions ≡ b_versions))
 lent_place_unique placed a b a_newest b_newest a_versions b_versions one two = (

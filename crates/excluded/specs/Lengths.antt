@@ -1,5 +1,6 @@
 -- A version table of one entry too few, or one too many, accepted: by each call that is lent one, at a moment of the
--- listing at which it accepts the table of 256 entries that is there (`right_accepted`). The tables are that one without
+-- listing at which it accepts the table of 256 entries that is there (`right_accepted`). The tables are that one
+-- without
 -- its last entry, which is empty, and with one more, so that only the length is wrong.
 use Rattle.std.specs.Prelude.{List, [], ◌∷◌, ◌++◌, ◌≡◌, refl, replicate, take}
 use Rattle.terms.specs.Refusals.{place_of as placed}

@@ -108,7 +108,8 @@ rows =
     -- copy reads its target (copy_reads_its_target); 7 and 8 exchanged (seven_is_eight)
     ∷ row unpacked_parts (unpack_of 4 (encode copying)) (refuses UndeclaredRead 0)
     ∷ row unpacked_parts (unpack_of 4 (encode (transaction [] (0 ∷ []) (Add 0 5 ∷ [])))) (refuses UndeclaredWrite 0)
-    -- unpack_at: the place lost, N told for it (place_is_lost); an entry from elsewhere, the first (entry_from_elsewhere)
+    -- unpack_at: the place lost, N told for it (place_is_lost); an entry from elsewhere, the first
+    -- (entry_from_elsewhere)
     ∷ row unpacked_parts (unpack_at_of 4 (zeros ++ encode (reading (1 ∷ 0 ∷ []))) 1) (refuses NotAscending 4)
     ∷ row unpacked_parts (unpack_at_of 4 (zeros ++ encode setting) 1) (accepts zeros)
     -- no_meaning: one that reads (no_meaning_reads); one with an action (no_meaning_acts)
@@ -124,6 +125,8 @@ rows =
 
 pub packed_exclude : AllExclude rows
 unfolding
-    unpack_of unpack_at_of pack_of verdict_of entry_verdict malformed nonzero action_nonzero no_such_record not_ascending
-    undeclared_read undeclared_write some_of uses_of decode encode action_of action_bytes set_bytes nothing number_in bytes_of
+    unpack_of unpack_at_of pack_of verdict_of entry_verdict malformed nonzero action_nonzero no_such_record
+    not_ascending
+    undeclared_read undeclared_write some_of uses_of decode encode action_of action_bytes set_bytes nothing number_in
+    bytes_of
 packed_exclude = all_exclude rows refl

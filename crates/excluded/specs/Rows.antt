@@ -1,5 +1,6 @@
 -- What the tables of this crate share: a row, what it says, and that every row of a table holds. A table is a list of
--- rows, and its theorem is `all_exclude` with `refl`: the parts of every row are computed and compared, and where `refl`
+-- rows, and its theorem is `all_exclude` with `refl`: the parts of every row are computed and compared, and where
+-- `refl`
 -- is refused, the message has the numbers of the rows that exclude nothing.
 --
 --     abbrev pub rows : List Row

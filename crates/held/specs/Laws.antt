@@ -23,7 +23,8 @@ module _ {A : Type 0} (P : A → Type 0) (default : A) (holds : P default) where
   of_four (a ∷ b ∷ c ∷ d ∷ e ∷ list) four first second third fourth i = absurd (omega arith)
 
 pub set_of : (set : List ℕ) → length set ≡ 4
-    → get_or set 0 0 < 2 ^ 16 → get_or set 1 0 < 2 ^ 16 → get_or set 2 0 < 2 ^ 16 → get_or set 3 0 < 2 ^ 16 → HeldSet set
+    → get_or set 0 0 < 2 ^ 16 → get_or set 1 0 < 2 ^ 16 → get_or set 2 0 < 2 ^ 16 → get_or set 3 0 < 2 ^ 16
+    → HeldSet set
 set_of set four first second third fourth =
     record { four = four; fit = of_four (λ x. x < 2 ^ 16) 0 (omega arith) set four first second third fourth }
 

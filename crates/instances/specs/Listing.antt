@@ -86,10 +86,14 @@ steps =
 -- the engine after so many of them; whoever unfolds it can compute the engine's definitions
 unfoldable pub after : ℕ → Engine
 unfolding
-    log listing encode set_bytes action_bytes bytes_of number_in entry_verdict malformed nonzero action_nonzero no_such_record
-    not_ascending undeclared_read undeclared_write some_of uses_of verdict_of unpack_at_of decode action_of nothing worked_of
-    decide_of place_in contents_in written made opened make_of unopened open_of open_verdict numbers_wrong out_of_range some_below
-    place_of place_verdict not_planning claim_of not_running advance_of advance_verdict unfit act_of seal_of seal_verdict
+    log listing encode set_bytes action_bytes bytes_of number_in entry_verdict malformed nonzero action_nonzero
+    no_such_record
+    not_ascending undeclared_read undeclared_write some_of uses_of verdict_of unpack_at_of decode action_of nothing
+    worked_of
+    decide_of place_in contents_in written made opened make_of unopened open_of open_verdict numbers_wrong
+    out_of_range some_below
+    place_of place_verdict not_planning claim_of not_running advance_of advance_verdict unfit act_of seal_of
+    seal_verdict
     not_sealable opening offered played
 after count = (played log (take count steps) opened).engine
 

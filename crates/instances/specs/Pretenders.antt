@@ -1,7 +1,8 @@
 -- Two more of document 01's impostors: one that runs the whole batch at its first step and then pretends, and one whose
 -- step or wait numbers are invented. That a later step which changes nothing is no answer is said in `Impostors`
 -- (`place_idle_later`, `claim_idle`, `advance_idle`, `seal_idle`).
-use Rattle.std.specs.Prelude.{ℕ, zero, suc, Bool, true, false, cond, List, [], ◌∷◌, map, ◌≢◌, ◌≡◌, refl, length, get_or, replicate}
+use Rattle.std.specs.Prelude.{ℕ, zero, suc, Bool, true, false, cond, List, []}
+use Rattle.std.specs.Prelude.{◌∷◌, map, ◌≢◌, ◌≡◌, refl, length, get_or, replicate}
 use Rattle.std.proofs.Common.{sym, ap, ◌∙◌}
 use Rattle.terms.specs.declared.refusal.Place.{Place}
 use Rattle.terms.specs.declared.refusal.Refusal.{Refusal}
@@ -15,7 +16,8 @@ use Rattle.versions.specs.declared.Version.{Version}
 use Rattle.versions.specs.declared.plan.Link.{Link}
 use Rattle.engine.specs.Met.{PlaceMet, AdvanceMet, SealMet}
 use Rattle.engine.specs.Claim.{claim_of}
-use Rattle.engine.specs.Place.{Plans, place_verdict, placed_when, place_below, place_write, place_of, written_in, slot_of}
+use Rattle.engine.specs.Place.{Plans, place_verdict, placed_when, place_below}
+use Rattle.engine.specs.Place.{place_write, place_of, written_in, slot_of}
 use Rattle.engine.specs.Place.{position_of, write_of, meaning_at}
 use Rattle.engine.specs.Range.{placed_by, row_at}
 use Rattle.engine.specs.Rows.{row, is_complete}
@@ -76,7 +78,8 @@ below_marks (suc j) s p i t plans other marked =
     below_marks j s p i t plans other (go (written_in s.partitions p t j) (place_below j s p i t plans) marked)
   where
     go : (written : Bool) (so_far : Plans)
-        → (entry_of (cond written (place_write (position_of s i) (slot_of i j) (write_of t j) so_far) so_far).versions other
+        → (entry_of (cond written (place_write (position_of s i) (slot_of i j) (write_of t j) so_far) so_far).versions
+        other
         ).produced ≡ true
         → (entry_of so_far.versions other).produced ≡ true
     go true so_far then =

@@ -128,7 +128,8 @@ order =
 order_runs : (answers start order ≡ replicate 12 (some stepped) ++ some (waits_for 1) ∷ replicate 16 (some stepped))
     × (seal_accepted store start order ≡ true)
 unfolding answers seal_accepted machine opened_machine offered respond planning_over all_complete is_complete_lem
-    first_failing opened unplanned place_next link_writes link_write last_write slot_among updated updated_entry with_work
+    first_failing opened unplanned place_next link_writes link_write last_write slot_among updated updated_entry
+    with_work
     with_both produce marks_below find_mark ℕ_discrete dec_lt dec_le
 order_runs = (refl, refl)
 

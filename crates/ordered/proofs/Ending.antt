@@ -1,5 +1,6 @@
 -- What a sealed engine holds: the run over the machine, said of its rows, results, records and numbers.
-use Rattle.std.specs.Prelude.{ℕ, zero, suc, ◌+◌, ◌*◌, ◌≤◌, ◌<◌, ◌≡◌, refl, List, [], ◌∷◌, ◌++◌, map, length, get_or, take}
+use Rattle.std.specs.Prelude.{ℕ, zero, suc, ◌+◌, ◌*◌, ◌≤◌, ◌<◌, ◌≡◌, refl}
+use Rattle.std.specs.Prelude.{List, [], ◌∷◌, ◌++◌, map, length, get_or, take}
 use Rattle.std.proofs.Common.{sym, ap, ◌∙◌, subst, arith, length-take-le, get_or-take, ext_get_or}
 use Rattle.std.proofs.Math.Decide.{dec_lt}
 use Rattle.std.proofs.lemmas.List.{length-map}
@@ -33,7 +34,8 @@ four_on a b c y results i =
     rw (second, third, fourth, first)
 
 pub results_are : (count : ℕ) (results : List ℕ) (values : List (List ℕ)) → length results ≡ 4 * count
-    → ((i : ℕ) → i < count → four_at results (4 * i) ≡ in_four (get_or values i [])) → results ≡ results_for count values
+    → ((i : ℕ) → i < count → four_at results (4 * i) ≡ in_four (get_or values i []))
+    → results ≡ results_for count values
 results_are zero [] values long each = refl
 results_are zero (a ∷ results) values long each = absurd (omega (arith, long))
 results_are (suc count) [] values long each = absurd (omega (arith, long))

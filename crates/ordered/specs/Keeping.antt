@@ -108,7 +108,8 @@ module _ (B : order.Batch ℕ Outcome) (o : State) (log stored : List ℕ) (d : 
   unfolding store.seal_accepted seal_accepted
   sealed_same e [] = refl
   sealed_same e (offer ∷ offers) =
-      ap (λ x. store.is_sealing (to_store offer) x || store.seal_accepted S (store.after e (offer_to log e (to_store offer)))
+      ap (λ x. store.is_sealing (to_store offer) x || store.seal_accepted S
+      (store.after e (offer_to log e (to_store offer)))
       (map to_store offers)) (reply_same log e offer)
       ∙ ap (λ x. x || store.seal_accepted S (store.after e (offer_to log e (to_store offer))) (map to_store offers))
       (sealing_turn offer (offered log e offer) log)

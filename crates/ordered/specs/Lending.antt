@@ -40,7 +40,8 @@ place_count s p log newest versions = go (place_verdict s p log newest (length v
 claim_count : (s : State) (w i : ℕ) → (claim_of s w i).state.records ≡ s.records
 unfolding claim_of
 claim_count s w i =
-    go (out_of_range s) (not_running s) (no_such_claim s w i) (not (is_idle (worker_at s w))) (not (is_unprocessed (row_at s i)))
+    go (out_of_range s) (not_running s) (no_such_claim s w i) (not (is_idle (worker_at s w)))
+    (not (is_unprocessed (row_at s i)))
   where
     chain : Bool → Bool → Bool → Bool → Bool → Stepped
     chain far moment party busy taken =

@@ -15,7 +15,8 @@ set_in_four (a ∷ b ∷ c ∷ []) x few = refl
 set_in_four (a ∷ b ∷ c ∷ y ∷ values) x few = absurd (omega (arith, few))
 
 -- "the values read, then zeros"
-pub results_in_four : (values : List ℕ) → length values ≤ 4 → results_of (in_four values) (length values) ≡ in_four values
+pub results_in_four : (values : List ℕ) → length values ≤ 4
+    → results_of (in_four values) (length values) ≡ in_four values
 results_in_four [] few = refl
 results_in_four (a ∷ []) few = refl
 results_in_four (a ∷ b ∷ []) few = refl
@@ -78,7 +79,13 @@ module _ (results : List ℕ) (at : ℕ) (values : List ℕ) where
     third =
         get_or-set_other three_put (at + 3) (at + 2) (get_or values 3 0) 0 (λ same. absurd (omega (arith, same)))
         ∙ get_or-set_same two_put (at + 2) (get_or values 2 0) 0
-        (omega (arith, inside, length-set results at (get_or values 0 0), length-set one_put (at + 1) (get_or values 1 0)))
+        (omega (
+          arith,
+          inside,
+          length-set results at (get_or values 0 0),
+          length-set one_put (at + 1)
+              (get_or values 1 0),
+        ))
 
     fourth : get_or (put_four results at values) (at + 3) 0 ≡ get_or values 3 0
     fourth =

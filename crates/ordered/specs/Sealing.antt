@@ -164,7 +164,8 @@ module _ (B : order.Batch ℕ Outcome) (o : State) (log stored : List ℕ) (d : 
       )
 
   -- where every transaction is Complete the seal is accepted, and only there
-  pub seal_makes : machine.AllComplete B m → offer_to log e store.seal ≡ store.accepted machine.stepped (sealed_engine e)
+  pub seal_makes : machine.AllComplete B m
+      → offer_to log e store.seal ≡ store.accepted machine.stepped (sealed_engine e)
   unfolding offered seal_of seal_verdict
   seal_makes all =
       rw (

@@ -1,5 +1,6 @@
 -- Laws of refusal 4 in the actions, whose first eight bytes are taken as one number, and in a whole entry.
-use Rattle.std.specs.Prelude.{ℕ, zero, suc, ◌+◌, ◌*◌, ◌%◌, ◌<◌, Bool, true, false, ◌&&◌, ◌||◌, not, ◌≡◌, refl, List, ltb, leb, eqb}
+use Rattle.std.specs.Prelude.{ℕ, zero, suc, ◌+◌, ◌*◌, ◌%◌, ◌<◌, Bool, true, false}
+use Rattle.std.specs.Prelude.{◌&&◌, ◌||◌, not, ◌≡◌, refl, List, ltb, leb, eqb}
 use Rattle.std.proofs.Common.{sym, ◌∙◌, arith, lt-ltb, le-ltb}
 use Rattle.little.specs.Laws.{Bytes}
 use Rattle.little.specs.Little.{number_in}
@@ -116,7 +117,8 @@ within_malformed_lem b at small = go (byte_at b (at + 1)) refl
         let top : leb 281474976710656 (long_at b at) ≡ is_nonzero (word_at b (at + 6)) =
         rw (in_words b at) (from_fourth _ _ _ _ (word_small b at small) (word_small b (at + 2) small) third) in
         rw (second_unset b at small none)
-        (by_first (byte_at b at) (word_at b (at + 2)) (word_at b (at + 4)) (long_at b (at + 8)) last _ _ high (top ∙ same))
+        (by_first (byte_at b at) (word_at b (at + 2)) (word_at b (at + 4)) (long_at b (at + 8)) last _ _ high (top
+        ∙ same))
     go (suc second) some =
         second_set b at (long_at b (at + 8)) small (omega arith)
         ∙ sym (rw (is_nonzero_lem (byte_at b (at + 1)) (omega arith)) (or_true (kind_outside (byte_at b at))))

@@ -1,5 +1,6 @@
 -- Laws of the bytes of a meaning.
-use Rattle.std.specs.Prelude.{ℕ, ◌+◌, ◌≤◌, ◌<◌, ◌≡◌, refl, List, [], ◌∷◌, ◌++◌, length, get_or, set, take, drop, replicate}
+use Rattle.std.specs.Prelude.{ℕ, ◌+◌, ◌≤◌, ◌<◌, ◌≡◌, refl, List, []}
+use Rattle.std.specs.Prelude.{◌∷◌, ◌++◌, length, get_or, set, take, drop, replicate}
 use Rattle.std.proofs.Common.{◌∙◌, add-one, arith, append-nil, drop_of_length-le, drop-cons}
 use Rattle.std.proofs.Math.Seq.{take-length}
 use Rattle.little.specs.Little.{bytes_of}

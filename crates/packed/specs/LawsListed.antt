@@ -1,5 +1,6 @@
 -- Laws of refusals 7 and 8: a record among the first `count` of a set, and what it is below.
-use Rattle.std.specs.Prelude.{ℕ, zero, suc, ◌+◌, ◌*◌, Bool, true, false, ◌&&◌, ◌||◌, not, ◌≡◌, refl, List, [], ◌∷◌, leb, ltb, eqb, get_or}
+use Rattle.std.specs.Prelude.{ℕ, zero, suc, ◌+◌, ◌*◌, Bool, true, false, ◌&&◌, ◌||◌}
+use Rattle.std.specs.Prelude.{not, ◌≡◌, refl, List, [], ◌∷◌, leb, ltb, eqb, get_or}
 use Rattle.std.proofs.Common.{sym, ap, ◌∙◌, arith, eqb-true, lt-ltb}
 use Rattle.std.proofs.lemmas.Bool.{lt-leb, not-false}
 use Rattle.packed.specs.Fields.{byte_at, set_at, fields_at}

@@ -18,12 +18,14 @@ use Rattle.packed.specs.LawsWords.{
 -- A set whose four numbers are taken as one:
 module _ (b : List ℕ) (at : ℕ) where
   pub past_none : is_nonzero (long_at b at) ≡ past_set (set_at b at) 0
-  past_none = rw (in_words b at) (from_first (word_at b at) (word_at b (at + 2)) (word_at b (at + 4)) (word_at b (at + 6)))
+  past_none = rw (in_words b at)
+      (from_first (word_at b at) (word_at b (at + 2)) (word_at b (at + 4)) (word_at b (at + 6)))
 
   pub past_one : Bytes b → leb 65536 (long_at b at) ≡ past_set (set_at b at) 1
   past_one small =
       rw (in_words b at)
-      (from_second (word_at b at) (word_at b (at + 2)) (word_at b (at + 4)) (word_at b (at + 6)) (word_small b at small))
+      (from_second (word_at b at) (word_at b (at + 2)) (word_at b (at + 4)) (word_at b (at + 6))
+      (word_small b at small))
 
   pub past_two : Bytes b → leb 4294967296 (long_at b at) ≡ past_set (set_at b at) 2
   past_two small =

@@ -136,7 +136,8 @@ fields_again x held =
     )
 
 row_again : (action : Action) → HeldFields (fields_of action) → row_at (action_bytes (fields_of action)) 0 ≡ row action
-row_again action held = ap (λ x. row (action_of x)) (fields_again (fields_of action) held) ∙ ap row (action_again action)
+row_again action held = ap (λ x. row (action_of x)) (fields_again (fields_of action) held)
+    ∙ ap row (action_again action)
 
 pub decode_encode : (t : Transaction) → Held t → decode (encode t) ≡ t
 unfolding decode encode set_bytes action_bytes bytes_of

@@ -1,5 +1,6 @@
 -- Refusals 5 to 8: the records of an entry. What an action reads and writes is said by the table of kinds.
-use Rattle.std.specs.Prelude.{ℕ, zero, suc, ◌+◌, ◌*◌, Bool, false, ◌&&◌, ◌||◌, not, List, [], ◌∷◌, get_or, ltb, leb, eqb}
+use Rattle.std.specs.Prelude.{ℕ, zero, suc, ◌+◌, ◌*◌, Bool, false, ◌&&◌, ◌||◌}
+use Rattle.std.specs.Prelude.{not, List, [], ◌∷◌, get_or, ltb, leb, eqb}
 use Rattle.packed.specs.Fields.{byte_at, set_at, fields_at}
 use Rattle.packed.specs.Kinds.{uses_of}
 use Rattle.packed.specs.declared.fields.Fields.{Fields}

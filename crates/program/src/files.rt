@@ -64,7 +64,8 @@ fn place_of(start: usize) -> u64 {
     }
 }
 
-// The file of a part is to be read on from where the part starts. Where there is nothing to read, nothing is sought: such
+// The file of a part is to be read on from where the part starts. Where there is nothing to read, nothing is sought:
+// such
 // a file may be none that can be.
 pub(crate) fn at_start<F: Seek>(part: &mut Part<F>) -> io::Result<()> {
     if part.length == 0 {
@@ -93,7 +94,8 @@ fn read_on<F: Read>(part: &mut Part<F>, space: &mut [u8]) -> io::Result<usize>
     }
 }
 
-// Loads the start of a part, and answers how many bytes it put there. The only error is that of the file's seek or read;
+// Loads the start of a part, and answers how many bytes it put there. The only error is that of the file's seek or
+// read;
 // after it some of the space may be written, and it is as long as it was.
 pub fn load<F: Read + Seek>(part: &mut Part<F>, space: &mut [u8]) -> io::Result<usize>
     ensures within { IfOk result (λ n. n ≤ length space.new) }

@@ -16,7 +16,8 @@ use std::io::{Read, Seek};
 use std::rt::Files;
 use terms::Verdict;
 
-// Bytes of an open file: so many from `start` on. There is no file where it could not be opened. Parts of one file share
+// Bytes of an open file: so many from `start` on. There is no file where it could not be opened. Parts of one file
+// share
 // it, as `&File`.
 #[derive(Clone, Copy, Drop)]
 pub struct Part<F> {
@@ -121,7 +122,8 @@ fn with_state<R: Print, F: Read + Seek>(
     with_records(rt, state, quiet, log, steps, records)
 }
 
-// All that the program does. The only error is that of a read, a seek or a write; what was printed before it stays printed.
+// All that the program does. The only error is that of a read, a seek or a write; what was printed before it stays
+// printed.
 pub fn run<R: Print, F: Read + Seek>(
     rt: &R,
     setup: Setup,

@@ -1,4 +1,5 @@
-// The functions that have the version table. Each does little, since the proof of a function that has a slice of structs
+// The functions that have the version table. Each does little, since the proof of a function that has a slice of
+// structs
 // grows with what it lends and calls.
 use crate::{Part, files, print};
 use desk::{Tally, begin, offer_all};

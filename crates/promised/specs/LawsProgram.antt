@@ -1,6 +1,7 @@
 -- The program's run and the library's are one: the same store made, the same batch opened with tables that hold the
 -- same, and the same steps offered.
-use Rattle.std.specs.Prelude.{ℕ, zero, suc, ◌≤◌, Bool, true, false, ◌||◌, cond, List, [], ◌∷◌, ◌≡◌, ltb, eqb, length, take, replicate}
+use Rattle.std.specs.Prelude.{ℕ, zero, suc, ◌≤◌, Bool, true, false, ◌||◌, cond}
+use Rattle.std.specs.Prelude.{List, [], ◌∷◌, ◌≡◌, ltb, eqb, length, take, replicate}
 use Rattle.std.proofs.Math.Path.{refl, sym, ap}
 use Rattle.std.proofs.Common.{◌∙◌, arith, ltb-false, ne_eqb, length-append}
 use Rattle.std.proofs.lemmas.List.{length-replicate}
@@ -133,7 +134,8 @@ module _ (s : State) (n : ℕ) (as_made : s.records ≡ n) (eight : length s.pla
   by_verdict Passed is =
       ap (λ (k : ℕ).
       printed log (run_of steps (length steps) log
-      (session_of (begun (opened s (entries_in log))) records (none_newest newest) (all_empty versions) (replicate k 0))))
+      (session_of (begun (opened s (entries_in log))) records (none_newest newest) (all_empty versions)
+      (replicate k 0))))
       (length-replicate {A = ℕ} 256 0 ∙ sym lent)
       ∙ printed_told n log (last is) outcomes counts long four
       (opens s log (length newest) (length versions) (length results) is).few_entries (same_count is)
@@ -193,4 +195,5 @@ module _ (stored log steps results outcomes counts : List ℕ) (n : ℕ) (lent :
       ∙ (ap (λ (k : ℕ). made_text (made_if (wrong_parameter k 2 2 1) k 2 2 1)) (sym (length_numbers stored n))
       ∙ ap (λ (wrong : Bool).
       text_of n log (cond wrong (library.keeps 1 records results outcomes counts)
-      (library.after_making (make_of (length records) 2 2 1) log steps records results outcomes counts))) (sym right_lent))
+      (library.after_making (make_of (length records) 2 2 1) log steps records results outcomes counts)))
+      (sym right_lent))

@@ -1,5 +1,6 @@
 -- The line of a refusal tells its number, and no other text of a run begins as it does.
-use Rattle.std.specs.Prelude.{ℕ, zero, suc, ◌+◌, ◌-◌, ◌*◌, Bool, true, false, cond, List, ◌++◌, ◌≡◌, refl, eqb, length, get_or, replicate}
+use Rattle.std.specs.Prelude.{ℕ, zero, suc, ◌+◌, ◌-◌, ◌*◌, Bool, true, false}
+use Rattle.std.specs.Prelude.{cond, List, ◌++◌, ◌≡◌, refl, eqb, length, get_or, replicate}
 use Rattle.std.proofs.Common.{append_assoc, sym, ap, ◌∙◌, arith, eq-eqb, ne_eqb}
 use Rattle.terms.specs.Refusals.{verdict_number, number_of}
 use Rattle.terms.specs.declared.refusal.Refusal.{Refusal}

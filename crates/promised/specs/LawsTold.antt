@@ -74,7 +74,8 @@ unfolding outcomes_of
 outcome_told s outcomes i below long = told_to s outcomes 64 i below (omega (arith, long))
 
 -- the outcomes of a run's first transactions, where the rows are Complete with them
-pub as_many_outcomes : (log : List Transaction) (records : List ℕ) → length (one_by_one log records).outcomes ≡ length log
+pub as_many_outcomes : (log : List Transaction) (records : List ℕ)
+    → length (one_by_one log records).outcomes ≡ length log
 unfolding one_by_one
 as_many_outcomes [] records = refl
 as_many_outcomes (t ∷ log) records = ap suc (as_many_outcomes log (records_after t records))

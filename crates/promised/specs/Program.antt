@@ -1,6 +1,7 @@
 -- The library for C does what the program does. In words: on the numbers of records.bin, the log and the steps, with
 -- two partitions, two workers and the first position 1, as the program has them, a run from C makes the program's run.
--- The program's whole output (`output_of`, desk/specs/Program.antt) is the text (`Told.antt`) of what that run hands out:
+-- The program's whole output (`output_of`, desk/specs/Program.antt) is the text (`Told.antt`) of what that run hands
+-- out:
 -- "refused" and the number where it refuses the store or its opening; else each transaction's outcome and values read
 -- and the records after it, or "not sealed", and the three counts. That the program's code prints `output_of` is
 -- compared, not proved.

@@ -4,7 +4,8 @@
 --
 -- The hypotheses are what the call hands back: its number is 0, and its fourth count is 1. Nothing is asked of the
 -- arguments.
-use Rattle.std.specs.Prelude.{ℕ, ◌≤◌, Bool, true, false, ◌||◌, cond, List, map, ◌≡◌, refl, eqb, length, get_or, take, replicate}
+use Rattle.std.specs.Prelude.{ℕ, ◌≤◌, Bool, true, false, ◌||◌, cond, List}
+use Rattle.std.specs.Prelude.{map, ◌≡◌, refl, eqb, length, get_or, take, replicate}
 use Rattle.std.proofs.Common.{sym, ap, ◌∙◌, arith, eq-eqb, eqb-true}
 use Rattle.std.proofs.Math.Path.{subst}
 use Rattle.std.proofs.lemmas.Bool.{eqb-false, not-false}
@@ -146,7 +147,8 @@ module _ (p w first : ℕ) (log steps records results outcomes counts : List ℕ
           × ((length outcomes ≡ 64) × (length counts ≡ 4))
       go true is none = absurd (omega (arith, none))
       go false is none =
-          let right = each_right (not_of (length results) 256) (not_of (length outcomes) 64) (not_of (length counts) 4) is
+          let right = each_right (not_of (length results) 256) (not_of (length outcomes) 64)
+          (not_of (length counts) 4) is
           in (
             making (eqb (verdict_number made.verdict) 0) refl none,
             (right_length (length outcomes) 64 right.0, right_length (length counts) 4 right.1),

@@ -1,6 +1,8 @@
 -- Facts about what the seal does with the newest versions, which the proofs of its callers cite.
-use Rattle.std.specs.Prelude.{Bool, true, false, cond, ◌&&◌, not, List, ◌≡◌, refl, ℕ, zero, suc, ◌<◌, ◌≤◌, T, eqb, length, get_or, set}
-use Rattle.std.proofs.Common.{sym, ap, ◌∙◌, subst, zero-le, suc-le-suc, not-suc-le-zero, le_of_suc-le-suc, le_refl, le_trans, lt_irrefl, length-set}
+use Rattle.std.specs.Prelude.{Bool, true, false, cond, ◌&&◌, not, List, ◌≡◌, refl, ℕ}
+use Rattle.std.specs.Prelude.{zero, suc, ◌<◌, ◌≤◌, T, eqb, length, get_or, set}
+use Rattle.std.proofs.Common.{sym, ap, ◌∙◌, subst, zero-le, suc-le-suc}
+use Rattle.std.proofs.Common.{not-suc-le-zero, le_of_suc-le-suc, le_refl, le_trans, lt_irrefl, length-set}
 use Rattle.std.proofs.Math.Nat.{le-suc}
 use Rattle.terms.specs.Reserved.{no_slot}
 use Rattle.versions.specs.Entry.{empty_entry}
@@ -86,7 +88,8 @@ module _ (versions : List Version) (newest records : List ℕ) (on : Bool) where
       ∙ collect_kept count number (le_trans (le-suc count) l)
 
   collect_turn : (count : ℕ) → count < length records
-      → get_or (collect_below versions newest records on (suc count)) count 0 ≡ taken_of versions newest records on count
+      → get_or (collect_below versions newest records on (suc count)) count 0
+      ≡ taken_of versions newest records on count
   collect_turn count l =
       take_here
       (on && not (eqb (slot_of newest count) no_slot))

@@ -1,7 +1,9 @@
 -- Facts about the version table that the proofs of its callers cite: lengths are kept, other entries are as they were,
 -- and a slot past the end changes nothing.
-use Rattle.std.specs.Prelude.{Bool, true, false, cond, ◌&&◌, not, List, [], ◌∷◌, ◌≡◌, refl, ℕ, zero, suc, ◌<◌, ◌≤◌, T, ltb, eqb, length, get_or, set}
-use Rattle.std.proofs.Common.{sym, ap, ◌∙◌, subst, not-suc-le-zero, le_of_suc-le-suc, le_refl, lt_irrefl, lt_of_lt_of_le, ltb→lt, length-set}
+use Rattle.std.specs.Prelude.{Bool, true, false, cond, ◌&&◌, not, List, [], ◌∷◌, ◌≡◌, refl}
+use Rattle.std.specs.Prelude.{ℕ, zero, suc, ◌<◌, ◌≤◌, T, ltb, eqb, length, get_or, set}
+use Rattle.std.proofs.Common.{sym, ap, ◌∙◌, subst, not-suc-le-zero, le_of_suc-le-suc}
+use Rattle.std.proofs.Common.{le_refl, lt_irrefl, lt_of_lt_of_le, ltb→lt, length-set}
 use Rattle.terms.specs.Reserved.{no_slot}
 use Rattle.versions.specs.Entry.{empty_entry, linked_of, ended_of, filled_of}
 use Rattle.versions.specs.Step.{preceding_of, end_at, link_of, fill_of}
@@ -21,7 +23,8 @@ set_here d [] i y l = absurd (not-suc-le-zero l)
 set_here d (x ∷ xs) zero y l = refl
 set_here d (x ∷ xs) (suc i) y l = set_here d xs i y (le_of_suc-le-suc l)
 
-pub set_other : {A : Type 0} (d : A) (xs : List A) (i j : ℕ) (y : A) → (j ≡ i → ⊥) → get_or (set xs i y) j d ≡ get_or xs j d
+pub set_other : {A : Type 0} (d : A) (xs : List A) (i j : ℕ) (y : A) → (j ≡ i → ⊥)
+    → get_or (set xs i y) j d ≡ get_or xs j d
 set_other d [] i j y f = refl
 set_other d (x ∷ xs) zero zero y f = absurd (f refl)
 set_other d (x ∷ xs) zero (suc j) y f = refl

@@ -15,7 +15,8 @@ use base.Logic.{ent, sep, ex}
 use base.Fml.{Lft, GName, Share, Fml, Incl, fsep, flft, fdead, fobs, fauth, flent, fobor}
 use ghost.Rules.{Toks, span}
 use types.Logic.{Logic, sem, lfts}
-use types.Kit.{‵, raw, ◌⊛◌, some, later, ◌$◌, ◌∵◌, !, qed, move, use1, use2, use3, drop, split, pick, fsplit, fjoin, feq_i, frame, await, updating, now as at_once, show, done}
+use types.Kit.{‵, raw, ◌⊛◌, some, later, ◌$◌, ◌∵◌, !, qed, move, use1, use2, use3}
+use types.Kit.{drop, split, pick, fsplit, fjoin, feq_i, frame, await, updating, now as at_once, show, done}
 use types.SemTy.{cells, Arr}
 use types.Share.{arr_parts}
 use types.Tokens.{lent_back}
