@@ -1,10 +1,8 @@
 -- "State and all tables keep their contents": a run that answers with a refusal number changes none of the caller's
 -- arrays.
-use Rattle.std.specs.Prelude.{ℕ, ◌/◌, Bool, true, false, cond, List, ◌≡◌, refl, ltb, eqb, length, replicate}
+use Rattle.std.specs.Prelude.{ℕ, ◌/◌, Bool, true, false, cond, List, ◌≡◌, refl, ltb, eqb, length, replicate, Ok}
 use Rattle.std.proofs.Common.{ap, sym, arith, ltb-false, ne_eqb}
-use Rattle.terms.specs.Refusals.{verdict_number, number_of}
-use Rattle.terms.specs.declared.refusal.Verdict.{Verdict}
-use Rattle.terms.specs.declared.refusal.Verdict.TheVariants.{Accepted, Refused}
+use Rattle.terms.specs.Refusals.{verdict_number, number_of, Verdict}
 use Rattle.versions.specs.Entry.{empty_entry}
 use Rattle.versions.specs.declared.Version.{Version}
 use Rattle.engine.specs.Answers.{answer_number}
@@ -39,7 +37,7 @@ module _ (log steps records results outcomes counts : List ℕ) where
       → Kept (returned_by (answer_number (opened_by v s log newest versions results).stepped.answer)
       (after_opened (opened_by v s log newest versions results) log steps records) outcomes counts) records results
       outcomes counts
-  after_opening_lem Accepted s newest versions some = absurd (some refl)
+  after_opening_lem (Ok _) s newest versions some = absurd (some refl)
   after_opening_lem (Refused refusal place) s newest versions some =
       let same = none_offered steps log (session_of (begun s) records newest versions results) in (
         ap (λ (z : Session). z.records) same,

@@ -15,7 +15,7 @@ ghost use Rattle.capi.specs.Lent.{wrong_lent};
 use desk::Tally;
 use engine::State;
 use packed::unpack;
-use terms::Position;
+use terms::{Position, verdict_number, verdict_place};
 
 // A batch that was run: the number that refuses its opening, 0 for none, and what there is after the last step.
 #[derive(Clone, Copy)]
@@ -31,8 +31,8 @@ pub fn uxoladun_check(bytes: &[u8], records: usize, place: &mut u64) -> u32
 {
     let unpacked = unpack(bytes, records);
     let verdict = unpacked.verdict;
-    *place = verdict.place() as u64;
-    verdict.number() as u32
+    *place = verdict_place(verdict) as u64;
+    verdict_number(verdict) as u32
 }
 
 // "a lent table's length is wrong"

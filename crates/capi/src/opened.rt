@@ -8,12 +8,13 @@ ghost use Rattle.capi.specs.Running.{offered_bytes, ran_by};
 use crate::Ran;
 use desk::{Tally, begin};
 use engine::{Answer, Made, Stepped};
+use terms::verdict_number;
 
 pub(crate) fn number_of_making(made: Made) -> u8
     ensures { result ≡ verdict_number made.verdict }
 {
     let verdict = made.verdict;
-    verdict.number()
+    verdict_number(verdict)
 }
 
 pub(crate) fn number_of(stepped: Stepped) -> u8

@@ -1,10 +1,9 @@
 -- Deciding on the values read and then storing what is not carried is a step of the one-by-one run; so over a whole log
 -- the two runs give the same. `accepted_log` says it of entries that the checks accept.
-use Rattle.std.specs.Prelude.{◌≡◌, ℕ, zero, suc, ◌<◌, ◌≤◌, false, List, [], ◌∷◌, map, length, slice_index, refl}
+use Rattle.std.specs.Prelude.{◌≡◌, ℕ, zero, suc, ◌<◌, ◌≤◌, false, List, [], ◌∷◌, map, length, slice_index, refl, Ok}
 use Rattle.std.proofs.Common.{sym, ◌∙◌, arith, ext_get_or, get_or-take}
 use Rattle.std.proofs.Math.Path.{ap}
 use Rattle.std.proofs.Math.Seq.{length-take-le}
-use Rattle.terms.specs.declared.refusal.Verdict.TheVariants.{Accepted}
 use Rattle.packed.specs.Checks.{entry_verdict}
 use Rattle.packed.specs.Decode.{decode}
 use Rattle.packed.specs.declared.Transaction.{Transaction}
@@ -120,7 +119,7 @@ log_agrees (t ∷ log) records declared =
 -- entries that the checks accept, each as the transaction of its index
 abbrev pub AllAccepted : ℕ → ℕ → List (List ℕ) → Type 0
 AllAccepted n index [] = Unit {0}
-AllAccepted n index (b ∷ entries) = (entry_verdict n index b ≡ Accepted) × AllAccepted n (suc index) entries
+AllAccepted n index (b ∷ entries) = (entry_verdict n index b ≡ Ok tt) × AllAccepted n (suc index) entries
 
 pub all_declared : (n index : ℕ) (entries : List (List ℕ)) → AllAccepted n index entries
     → AllDeclared n (map decode entries)

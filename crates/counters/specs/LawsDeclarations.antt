@@ -1,10 +1,9 @@
 -- An entry that the checks accept means a transaction that is declared as it must be.
-use Rattle.std.specs.Prelude.{◌≡◌, ℕ, zero, suc, ◌+◌, ◌*◌, ◌<◌, ◌≤◌, Bool, false}
+use Rattle.std.specs.Prelude.{◌≡◌, ℕ, zero, suc, ◌+◌, ◌*◌, ◌<◌, ◌≤◌, Bool, false, Ok}
 use Rattle.std.specs.Prelude.{◌&&◌, ◌||◌, List, [], ◌∷◌, nat_le, nat_lt, slice_index, refl}
 use Rattle.std.proofs.Common.{ap, ◌∙◌, arith}
 use Rattle.std.proofs.Math.Decide.{ℕ_discrete}
 use borrow.Author.Tests.{ltb-false, leb-false, lt-ltb}
-use Rattle.terms.specs.declared.refusal.Verdict.TheVariants.{Accepted}
 use Rattle.packed.specs.Checks.{entry_verdict}
 use Rattle.packed.specs.Decode.{decode}
 use Rattle.packed.specs.Encode.{fields_of, action_in}
@@ -126,6 +125,6 @@ proper_declared n b checked =
       writes_declared = no_action writes_test b checked.is_formed checked.writes_declared;
     }
 
-pub accepted_declared : (n transaction : ℕ) (b : List ℕ) → entry_verdict n transaction b ≡ Accepted
+pub accepted_declared : (n transaction : ℕ) (b : List ℕ) → entry_verdict n transaction b ≡ Ok tt
     → Declared n (decode b)
 accepted_declared n transaction b accepted = proper_declared n b (proper n transaction b accepted)

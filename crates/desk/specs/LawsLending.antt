@@ -1,8 +1,6 @@
 -- A session whose transactions and workers are lent: it goes as the session that they make together.
-use Rattle.std.specs.Prelude.{ℕ, ◌*◌, Bool, true, false, not, cond, List, ◌≡◌, refl, T, length}
+use Rattle.std.specs.Prelude.{ℕ, ◌*◌, Bool, true, false, not, cond, List, ◌≡◌, refl, T, length, Ok}
 use Rattle.std.proofs.Common.{sym, ap, ◌∙◌}
-use Rattle.terms.specs.declared.refusal.Verdict.{Verdict}
-use Rattle.terms.specs.declared.refusal.Verdict.TheVariants.{Accepted as Passed, Refused as Fails}
 use Rattle.versions.specs.declared.Version.{Version}
 use Rattle.versions.specs.Seal.{newest_sound_of}
 use Rattle.engine.specs.Advance.{advance_verdict, move_of, answered_by, advanced_when, advance_of}
@@ -38,6 +36,7 @@ use Rattle.desk.specs.Steps.{is_place, is_claim, is_advance, is_seal}
 use Rattle.desk.specs.declared.Step.{Step}
 use Rattle.desk.specs.declared.Tally.{Tally}
 use Rattle.desk.specs.declared.lending.Sheet.{Sheet}
+use Rattle.terms.specs.Refusals.{Verdict}
 
 -- a tally taken apart and put together
 abbrev pub sheet_of : Tally → Sheet
@@ -152,7 +151,7 @@ advance_numbers s w log records newest versions results =
   where
     go : (v : Verdict)
         → numbers_of (advanced_when v s w log records newest versions results).stepped.state ≡ numbers_of s
-    go Passed =
+    go (Ok tt) =
         moved_numbers s w (worker_at s w).transaction (move_of s (worker_at s w) log records newest versions).answer
         (move_of s (worker_at s w) log records newest versions).leaves
         (move_of s (worker_at s w) log records newest versions).row
@@ -168,7 +167,7 @@ place_keeps s p log newest versions = go (place_verdict s p log newest (length v
     go : (v : Verdict)
         → (s.rows ≡ (placed_when v s p log (record { newest = newest; versions = versions })).stepped.state.rows)
         × (s.crew ≡ (placed_when v s p log (record { newest = newest; versions = versions })).stepped.state.crew)
-    go Passed = (refl, refl)
+    go (Ok tt) = (refl, refl)
     go (Fails refusal place) = (refl, refl)
 
 seal_keeps : (s : State) (records newest : List ℕ) (versions : List Version)
@@ -182,7 +181,7 @@ seal_keeps s records newest versions =
     go : (v : Verdict)
         → (s.rows ≡ (sealed_by v s records newest versions).stepped.state.rows)
         × (s.crew ≡ (sealed_by v s records newest versions).stepped.state.crew)
-    go Passed = (refl, refl)
+    go (Ok tt) = (refl, refl)
     go (Fails refusal place) = (refl, refl)
 
 -- ---- the counts

@@ -1,10 +1,8 @@
 -- What the program prints, from the bytes of records.bin, log.bin and steps.bin. "A missing file counts as empty."
-use Rattle.std.specs.Prelude.{ℕ, zero, suc, ◌+◌, ◌*◌, ◌/◌, ◌%◌, cond, List, []}
+use Rattle.std.specs.Prelude.{ℕ, zero, suc, ◌+◌, ◌*◌, ◌/◌, ◌%◌, cond, List, [], Ok, Err}
 use Rattle.std.specs.Prelude.{◌∷◌, ◌++◌, ltb, eqb, length, get_or, take, drop, replicate}
-use Rattle.terms.specs.Refusals.{number_of}
+use Rattle.terms.specs.Refusals.{number_of, Verdict}
 use Rattle.terms.specs.Reserved.{no_slot}
-use Rattle.terms.specs.declared.refusal.Verdict.{Verdict}
-use Rattle.terms.specs.declared.refusal.Verdict.TheVariants.{Accepted as Passed, Refused as Fails}
 use Rattle.little.specs.Little.{number_in}
 use Rattle.packed.specs.Unpacking.{unpack_at_of}
 use Rattle.versions.specs.Entry.{empty_entry}
@@ -102,10 +100,10 @@ after_opening (Refused refusal place) opened records log steps = refused_line (n
 
 -- a store that was made, or not
 abbrev pub after_making : Verdict → State → List ℕ → List ℕ → List ℕ → List ℕ
-after_making Passed state stored log steps =
+after_making (Ok _) state stored log steps =
     let opened = opened_from state log in
     after_opening opened.stepped.answer opened (numbers_of stored state.records) log steps
-after_making (Fails refusal place) state stored log steps = refused_line (number_of refusal)
+after_making (Err why) state stored log steps = refused_line (number_of why.refusal)
 
 -- all that the program prints
 unfoldable pub output_of : List ℕ → List ℕ → List ℕ → List ℕ

@@ -1,8 +1,8 @@
 -- "Advance, worker w. One of: read the next declared read; with none left, decide; carry the next carried write; fill
 -- the next write."
-use Rattle.std.specs.Prelude.{ℕ, ◌+◌, ◌*◌, Bool, true, false, ◌||◌, cond, List}
+use Rattle.std.specs.Prelude.{ℕ, ◌+◌, ◌*◌, Bool, true, false, ◌||◌, cond, List, Ok, Err}
 use Rattle.std.specs.Prelude.{[], ◌∷◌, ltb, leb, eqb, length, get_or, set}
-use Rattle.terms.specs.Refusals.{refuse_if, place_of}
+use Rattle.terms.specs.Refusals.{refuse_if, place_of, Verdict}
 use Rattle.terms.specs.declared.refusal.Place.{Place}
 use Rattle.terms.specs.declared.refusal.Refusal.{Refusal}
 use Rattle.terms.specs.declared.refusal.Refusal.TheVariants.{
@@ -14,8 +14,6 @@ use Rattle.terms.specs.declared.refusal.Refusal.TheVariants.{
   StateOutOfRange,
   BrokenTables,
 }
-use Rattle.terms.specs.declared.refusal.Verdict.{Verdict}
-use Rattle.terms.specs.declared.refusal.Verdict.TheVariants.{Accepted as Passed, Refused as Fails}
 use Rattle.packed.specs.Unpacking.{unpack_at_of}
 use Rattle.packed.specs.declared.Transaction.{Transaction}
 use Rattle.counters.specs.Deciding.{decide_of}
@@ -70,7 +68,7 @@ work_fits s worker log =
     -- 4 to 8
     and_then (unpack_at_of s.records log worker.transaction).verdict
     -- 15
-    (refuse_if (unfit worker (meaning_at s log worker.transaction)) BrokenTables 0 Passed)
+    (refuse_if (unfit worker (meaning_at s log worker.transaction)) BrokenTables 0 (Ok tt))
 
 -- "Steps check 1, 14, 9, 10, .. 12, .. then, in place and advance, 2 and the one transaction's 4 to 8, then 15."
 unfoldable pub advance_verdict : State → ℕ → List ℕ → ℕ → ℕ → ℕ → ℕ → Verdict
@@ -246,10 +244,10 @@ carried_out move s w i versions results =
     }
 
 abbrev pub advanced_when : Verdict → State → ℕ → List ℕ → List ℕ → List ℕ → List Version → List ℕ → Advanced
-advanced_when Passed s w log records newest versions results =
+advanced_when (Ok _) s w log records newest versions results =
     carried_out (move_of s (worker_at s w) log records newest versions) s w (worker_at s w).transaction versions results
-advanced_when (Fails refusal place) s w log records newest versions results =
-    record { stepped = refuse_by s refusal place; versions = versions; results = results }
+advanced_when (Err why) s w log records newest versions results =
+    record { stepped = refuse_by s why.refusal why.place; versions = versions; results = results }
 
 unfoldable pub advance_of : State → ℕ → List ℕ → List ℕ → List ℕ → List Version → List ℕ → Advanced
 advance_of s w log records newest versions results =

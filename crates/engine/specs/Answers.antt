@@ -1,10 +1,8 @@
 -- What a call answers, with the paper's number and values for each case.
-use Rattle.std.specs.Prelude.{ℕ, Bool, true, false}
-use Rattle.terms.specs.Refusals.{number_of, place_of}
+use Rattle.std.specs.Prelude.{ℕ, Bool, true, false, Ok, Err}
+use Rattle.terms.specs.Refusals.{number_of, place_of, Verdict}
 use Rattle.terms.specs.declared.refusal.Place.{Place}
 use Rattle.terms.specs.declared.refusal.Refusal.{Refusal}
-use Rattle.terms.specs.declared.refusal.Verdict.{Verdict}
-use Rattle.terms.specs.declared.refusal.Verdict.TheVariants.{Accepted as Passed, Refused as Fails}
 use Rattle.engine.specs.declared.Answer.{Answer}
 use Rattle.engine.specs.declared.Answer.TheVariants.{Accepted, Waits, Refused}
 use Rattle.engine.specs.declared.State.{State}
@@ -47,12 +45,12 @@ refuse_by s refusal place = record { answer = Refused refusal place; state = s }
 
 -- checks that come after others
 abbrev pub and_then : Verdict → Verdict → Verdict
-and_then Passed later = later
-and_then (Fails refusal place) later = Fails refusal place
+and_then (Ok _) later = later
+and_then (Err why) later = Err why
 
 abbrev pub is_accepted : Verdict → Bool
-is_accepted Passed = true
-is_accepted (Fails refusal place) = false
+is_accepted (Ok _) = true
+is_accepted (Err why) = false
 
 -- the answer is a refusal
 abbrev pub is_refused : Answer → Bool

@@ -1,14 +1,12 @@
 -- Laws of advancing: the way that the code goes.
 use Prim.Native.Nat.{ℕ, ◌*◌}
-use Rattle.std.specs.Prelude.{Bool, true, false, ◌≡◌, refl, length, get_or}
+use Rattle.std.specs.Prelude.{Bool, true, false, ◌≡◌, refl, length, get_or, Ok, Err}
 use Rattle.std.proofs.Math.Bool.{cond}
 use mathlib.Core.List.{List, [], ◌∷◌}
 use Rattle.std.proofs.Common.{ap, ◌∙◌, le_refl}
-use Rattle.terms.specs.Refusals.{refuse_if}
+use Rattle.terms.specs.Refusals.{refuse_if, Verdict}
 use Rattle.terms.specs.Reserved.{no_slot}
 use Rattle.terms.specs.declared.refusal.Refusal.TheVariants.{BrokenTables}
-use Rattle.terms.specs.declared.refusal.Verdict.{Verdict}
-use Rattle.terms.specs.declared.refusal.Verdict.TheVariants.{Accepted as Passed, Refused as Fails}
 use Rattle.packed.specs.declared.Transaction.{Transaction}
 use Rattle.packed.specs.declared.Unpacked.{Unpacked}
 use Rattle.counters.specs.Deciding.{decide_of}
@@ -81,12 +79,12 @@ slot_looked (Fill j) r newest = no_slot
 
 abbrev pub work_verdict : Worker → Unpacked → Verdict
 work_verdict worker entry =
-    and_then entry.verdict (refuse_if (unfit worker entry.meaning) BrokenTables 0 Passed)
+    and_then entry.verdict (refuse_if (unfit worker entry.meaning) BrokenTables 0 (Ok tt))
 
 abbrev pub aim_with : Verdict → Worker → Transaction → List ℕ → ℕ → ℕ → Aim
-aim_with Passed worker t newest bound position =
+aim_with (Ok _) worker t newest bound position =
     record {
-      verdict = Passed;
+      verdict = Ok tt;
       worker = worker;
       act = act_of worker t;
       writecount = t.writecount;
@@ -99,7 +97,7 @@ aim_with Passed worker t newest bound position =
             position = position;
           };
     }
-aim_with (Fails refusal place) worker t newest bound position = no_aim (Fails refusal place)
+aim_with (Err why) worker t newest bound position = no_aim (Err why)
 
 unfoldable pub aim_of : State → ℕ → List ℕ → List ℕ → ℕ → ℕ → ℕ → Aim
 aim_of s w log newest records versions results =
@@ -130,8 +128,8 @@ unfolding looked_by
 looked_is versions records look = refl
 
 abbrev pub moved_when : Verdict → Aim → Seen → Move
-moved_when Passed aim seen = move_with aim.act aim.worker aim.writecount aim.decision seen
-moved_when (Fails refusal place) aim seen = keeps refusal place
+moved_when (Ok _) aim seen = move_with aim.act aim.worker aim.writecount aim.decision seen
+moved_when (Err why) aim seen = keeps why.refusal why.place
 
 unfoldable pub turn_by : Aim → Seen → Turn
 turn_by aim seen =
@@ -207,7 +205,7 @@ module _ (s : State) (w : ℕ) (log records newest : List ℕ) (versions : List 
   looks_same (Carry j) t = refl
   looks_same (Fill j) t = refl
 
-  move_same : move_at Passed ≡ move_of s mine log records newest versions
+  move_same : move_at Ok tt ≡ move_of s mine log records newest versions
   move_same =
       looks_same (act_of mine (meaning_at s log mine.transaction)) (meaning_at s log mine.transaction)
 
@@ -225,7 +223,7 @@ module _ (s : State) (w : ℕ) (log records newest : List ℕ) (versions : List 
       go : (v : Verdict)
           → stepped (aim_at v).worker.transaction (move_at v)
           ≡ (advanced_when v s w log records newest versions results).stepped
-      go Passed = ap (stepped mine.transaction) move_same
+      go (Ok tt) = ap (stepped mine.transaction) move_same
       go (Fails refusal place) = refl
 
   pub advance_versions : fill_of versions (fill_by turn.step (length versions))
@@ -239,7 +237,7 @@ module _ (s : State) (w : ℕ) (log records newest : List ℕ) (versions : List 
       filled m = cond m.fills (fill_of versions (record { slot = m.slot; contents = m.contents })) versions
 
       go : (v : Verdict) → filled (move_at v) ≡ (advanced_when v s w log records newest versions results).versions
-      go Passed = ap filled move_same
+      go (Ok tt) = ap filled move_same
       go (Fails refusal place) = refl
 
   pub advance_results : results_by results turn
@@ -253,5 +251,5 @@ module _ (s : State) (w : ℕ) (log records newest : List ℕ) (versions : List 
       go : (v : Verdict)
           → given (aim_at v).worker.transaction (move_at v)
           ≡ (advanced_when v s w log records newest versions results).results
-      go Passed = ap (given mine.transaction) move_same
+      go (Ok tt) = ap (given mine.transaction) move_same
       go (Fails refusal place) = refl

@@ -1,8 +1,8 @@
 -- Laws of the numbers that come of unpacking the entries of a log.
-use Rattle.std.specs.Prelude.{ℕ, zero, suc, ◌+◌, ◌/◌, ◌≤◌, ◌<◌, Bool, true, false, List, ◌≡◌, length}
+use Rattle.std.specs.Prelude.{ℕ, zero, suc, ◌+◌, ◌/◌, ◌≤◌, ◌<◌, Bool, true, false, List, ◌≡◌, length, Ok, Err}
 use Rattle.std.proofs.Common.{arith, le-ltb}
 use Rattle.std.proofs.lemmas.Bool.{lt-leb}
-use Rattle.terms.specs.Refusals.{refuse_if, verdict_number}
+use Rattle.terms.specs.Refusals.{refuse_if, verdict_number, Verdict}
 use Rattle.terms.specs.declared.refusal.Refusal.TheVariants.{
   Malformed,
   NoSuchRecord,
@@ -11,8 +11,6 @@ use Rattle.terms.specs.declared.refusal.Refusal.TheVariants.{
   UndeclaredWrite,
   BrokenTables,
 }
-use Rattle.terms.specs.declared.refusal.Verdict.{Verdict}
-use Rattle.terms.specs.declared.refusal.Verdict.TheVariants.{Accepted, Refused}
 use Rattle.packed.specs.Checks.{entry_verdict, wrong_record_count, verdict_of}
 use Rattle.packed.specs.Form.{malformed}
 use Rattle.packed.specs.LawsVerdict.{unpacked_verdict}
@@ -38,7 +36,7 @@ entry_numbers n transaction b =
         → OfEntry (refuse_if formed Malformed transaction
         (refuse_if there NoSuchRecord transaction
         (refuse_if ascends NotAscending transaction
-        (refuse_if reads UndeclaredRead transaction (refuse_if writes UndeclaredWrite transaction Accepted)))))
+        (refuse_if reads UndeclaredRead transaction (refuse_if writes UndeclaredWrite transaction (Ok tt))))))
     go true there ascends reads writes h = (omega arith, omega arith)
     go false true ascends reads writes h = (omega arith, omega arith)
     go false false true reads writes h = (omega arith, omega arith)
@@ -59,8 +57,8 @@ unpack_numbers n log index right within =
     rw (unpack_is_entry n log index right within) (entry_numbers n index (entry_of log index))
 
 then_numbers : (v later : Verdict) → OfEntry v → OfEntry later → OfEntry (and_then v later)
-then_numbers Accepted later first rest = rest
-then_numbers (Refused refusal at) later first rest = first
+then_numbers (Ok _) later first rest = rest
+then_numbers (Err why) later first rest = first
 
 -- each entry in turn
 pub turns_numbers : (n : ℕ) (log : List ℕ) (count index : ℕ) → wrong_record_count n ≡ false
@@ -76,10 +74,10 @@ abbrev pub AtLeastFour : Verdict → Type 0
 AtLeastFour v = 1 ≤ verdict_number v → 4 ≤ verdict_number v
 
 pub later_numbers : (v : Verdict) (fault : Bool) → OfEntry v
-    → AtLeastFour (and_then v (refuse_if fault BrokenTables 0 Accepted))
-later_numbers Accepted true entry h = omega arith
-later_numbers Accepted false entry h = absurd (omega arith)
-later_numbers (Refused refusal at) fault entry h = (entry h).0
+    → AtLeastFour (and_then v (refuse_if fault BrokenTables 0 (Ok tt)))
+later_numbers (Ok _) true entry h = omega arith
+later_numbers (Ok _) false entry h = absurd (omega arith)
+later_numbers (Err why) fault entry h = (entry h).0
 
 -- N is right in a state that check 14 lets pass
 pub records_right : (s : State) → out_of_range s ≡ false → wrong_record_count s.records ≡ false

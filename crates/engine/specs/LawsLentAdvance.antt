@@ -3,7 +3,7 @@ use Rattle.std.specs.Prelude.{ℕ, zero, suc, ◌*◌, Bool, true, false, ◌||�
 use Rattle.std.specs.Prelude.{List, [], ◌∷◌, ◌≡◌, leb, length, get_or, set}
 use Rattle.std.proofs.Math.Path.{refl, ap}
 use Rattle.std.proofs.Common.{◌∙◌, le_refl, arith, leb-false}
-use Rattle.terms.specs.Refusals.{refuse_if}
+use Rattle.terms.specs.Refusals.{refuse_if, Verdict}
 use Rattle.terms.specs.declared.refusal.Refusal.TheVariants.{
   WrongParameter,
   WrongLength,
@@ -12,7 +12,6 @@ use Rattle.terms.specs.declared.refusal.Refusal.TheVariants.{
   WorkerBusyOrIdle,
   StateOutOfRange,
 }
-use Rattle.terms.specs.declared.refusal.Verdict.{Verdict}
 use Rattle.versions.specs.LawsTable.{set_past}
 use Rattle.versions.specs.Step.{fill_of}
 use Rattle.versions.specs.declared.Version.{Version}

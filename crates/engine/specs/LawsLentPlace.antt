@@ -1,8 +1,8 @@
 -- Laws of placing with lent transactions and workers: the way that the code goes.
-use Rattle.std.specs.Prelude.{ℕ, ◌*◌, Bool, ◌||◌, List, [], ◌≡◌, leb, eqb, length, set}
+use Rattle.std.specs.Prelude.{ℕ, ◌*◌, Bool, ◌||◌, List, [], ◌≡◌, leb, eqb, length, set, Ok, Err}
 use Rattle.std.proofs.Math.Path.{refl}
 use Rattle.std.proofs.Common.{ap, ◌∙◌}
-use Rattle.terms.specs.Refusals.{refuse_if}
+use Rattle.terms.specs.Refusals.{refuse_if, Verdict}
 use Rattle.terms.specs.declared.refusal.Refusal.TheVariants.{
   WrongParameter,
   WrongLength,
@@ -11,8 +11,6 @@ use Rattle.terms.specs.declared.refusal.Refusal.TheVariants.{
   PartitionDone,
   StateOutOfRange,
 }
-use Rattle.terms.specs.declared.refusal.Verdict.{Verdict}
-use Rattle.terms.specs.declared.refusal.Verdict.TheVariants.{Accepted as Passed, Refused as Fails}
 use Rattle.packed.specs.Unpacking.{unpack_at_of}
 use Rattle.packed.specs.declared.Transaction.{Transaction}
 use Rattle.versions.specs.declared.Version.{Version}
@@ -66,8 +64,8 @@ placed_numbers numbers p count =
     }
 
 abbrev pub counted_when : Verdict → Numbers → ℕ → ℕ → Counted
-counted_when Passed numbers p count = record { answer = Accepted; numbers = placed_numbers numbers p count }
-counted_when (Fails refusal place) numbers p count = record { answer = Refused refusal place; numbers = numbers }
+counted_when (Ok _) numbers p count = record { answer = Accepted; numbers = placed_numbers numbers p count }
+counted_when (Err why) numbers p count = record { answer = Refused why.refusal why.place; numbers = numbers }
 
 abbrev pub counted_as : Numbers → ℕ → Placing → Counted
 counted_as numbers p plan = counted_when plan.verdict numbers p plan.count
@@ -75,8 +73,8 @@ counted_as numbers p plan = counted_when plan.verdict numbers p plan.count
 -- a plan asks of the numbers alone
 plan_alone : (v : Verdict) (numbers : Numbers) (rows : List Row) (crew : List Worker) (p i : ℕ) (t : Transaction)
     → placing_with v (alone_of numbers) p i t ≡ placing_with v (joined numbers rows crew) p i t
-plan_alone Passed numbers rows crew p i t = refl
-plan_alone (Fails refusal place) numbers rows crew p i t = refl
+plan_alone (Ok _) numbers rows crew p i t = refl
+plan_alone (Err why) numbers rows crew p i t = refl
 
 -- ---- that is the definition
 module _ (numbers : Numbers) (rows : List Row) (crew : List Worker) (p : ℕ) (log newest : List ℕ)
@@ -115,7 +113,7 @@ module _ (numbers : Numbers) (rows : List Row) (crew : List Worker) (p : ℕ) (l
             here = plan.here;
             count = plan.count;
           }))
-      go Passed = refl
+      go (Ok tt) = refl
       go (Fails refusal place) = refl
 
   pub lent_counted : counted_as numbers p plan ≡ counted_of (place_of whole p log newest versions).stepped

@@ -1,17 +1,15 @@
 -- Laws of the seal with lent transactions and workers: the way that the code goes.
-use Rattle.std.specs.Prelude.{ℕ, zero, suc, ◌+◌, ◌*◌, Bool, false, ◌||◌}
+use Rattle.std.specs.Prelude.{ℕ, zero, suc, ◌+◌, ◌*◌, Bool, false, ◌||◌, Ok, Err}
 use Rattle.std.specs.Prelude.{not, cond, List, [], ◌≡◌, eqb, length, replicate}
 use Rattle.std.proofs.Math.Path.{refl}
 use Rattle.std.proofs.Common.{ap, ◌∙◌, arith, lt-ltb, le-ltb}
-use Rattle.terms.specs.Refusals.{refuse_if}
+use Rattle.terms.specs.Refusals.{refuse_if, Verdict}
 use Rattle.terms.specs.declared.refusal.Refusal.TheVariants.{
   WrongParameter,
   WrongMoment,
   StateOutOfRange,
   BrokenTables,
 }
-use Rattle.terms.specs.declared.refusal.Verdict.{Verdict}
-use Rattle.terms.specs.declared.refusal.Verdict.TheVariants.{Accepted as Passed, Refused as Fails}
 use Rattle.versions.specs.Seal.{newest_sound_of, collect_of}
 use Rattle.versions.specs.Table.{clear_of}
 use Rattle.versions.specs.declared.Version.{Version}
@@ -63,7 +61,7 @@ abbrev pub seal_verdict_by : Bool → Bool → State → ℕ → ℕ → ℕ →
 seal_verdict_by out unfinished s records newest versions sound =
     refuse_if (wrong_for_seal s records newest versions) WrongParameter 0
     (refuse_if out StateOutOfRange 0
-    (refuse_if (eqb s.size 0 || unfinished) WrongMoment 0 (refuse_if (not sound) BrokenTables 0 Passed)))
+    (refuse_if (eqb s.size 0 || unfinished) WrongMoment 0 (refuse_if (not sound) BrokenTables 0 (Ok tt))))
 
 abbrev pub sealing_with : Numbers → Bool → Bool → Bool → ℕ → ℕ → ℕ → Sealing
 sealing_with numbers wrong unfinished sound records newest versions =
@@ -73,7 +71,7 @@ sealing_with numbers wrong unfinished sound records newest versions =
     (numbers.batch.0 + 1)
 
 abbrev pub closed_when : Verdict → Numbers → ℕ → ℕ → Counted
-closed_when Passed numbers next batch =
+closed_when (Ok _) numbers next batch =
     record {
       answer = Accepted;
       numbers =
@@ -87,7 +85,7 @@ closed_when Passed numbers next batch =
             placed = replicate 8 0;
           };
     }
-closed_when (Fails refusal place) numbers next batch = record { answer = Refused refusal place; numbers = numbers }
+closed_when (Err why) numbers next batch = record { answer = Refused why.refusal why.place; numbers = numbers }
 
 abbrev pub closed_numbers : Numbers → Sealing → Counted
 closed_numbers numbers sealing = closed_when sealing.verdict numbers sealing.next sealing.batch
@@ -116,7 +114,7 @@ module _ (numbers : Numbers) (rows : List Row) (crew : List Worker) (records new
       go : (v : Verdict) → closed_when v numbers sealing.next sealing.batch
           ≡ counted_of
           (closed_as whole (record { verdict = v; next = sealing.next; batch = sealing.batch }))
-      go Passed = refl
+      go (Ok tt) = refl
       go (Fails refusal place) = refl
 
   pub lent_counted : closed_numbers numbers plan ≡ counted_of (seal_of whole records newest versions).stepped

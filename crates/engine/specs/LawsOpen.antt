@@ -1,12 +1,11 @@
 -- Laws of opening: the way that the code goes.
-use Rattle.std.specs.Prelude.{ℕ, suc, ◌+◌, ◌-◌, ◌%◌, ◌/◌, ◌≤◌, ◌<◌, false, ◌||◌, not, List, ◌≡◌, ltb, eqb, length}
+use Rattle.std.specs.Prelude.{ℕ, suc, ◌+◌, ◌-◌, ◌%◌, ◌/◌, ◌≤◌, ◌<◌, false}
+use Rattle.std.specs.Prelude.{◌||◌, not, List, ◌≡◌, ltb, eqb, length, Ok, Err}
 use Rattle.std.proofs.Math.Bool.{cond}
 use Rattle.std.proofs.Math.Path.{refl}
 use Rattle.std.proofs.Common.{sym, ap, ◌∙◌, add-one, arith, ltb-false}
 use Rattle.terms.specs.declared.refusal.Place.{Place}
 use Rattle.terms.specs.declared.refusal.Refusal.{Refusal}
-use Rattle.terms.specs.declared.refusal.Verdict.{Verdict}
-use Rattle.terms.specs.declared.refusal.Verdict.TheVariants.{Accepted, Refused}
 use Rattle.packed.specs.LawsForm.{not_left, not_right}
 use Rattle.packed.specs.Unpacking.{unpack_at_of}
 use Rattle.versions.specs.Table.{clear_of}
@@ -18,19 +17,20 @@ use Rattle.engine.specs.Tables.{none_newest, all_empty, all_zero}
 use Rattle.engine.specs.declared.State.{State}
 use Rattle.engine.specs.declared.Stepped.{Stepped}
 use Rattle.engine.specs.declared.open.Opening.{Opening}
+use Rattle.terms.specs.Refusals.{Verdict}
 
 -- the verdict, with the number of transactions where it accepts
 abbrev pub opening_by : Verdict → ℕ → Opening
-opening_by Accepted size = record { verdict = Accepted; size = size }
-opening_by (Refused refusal place) size = record { verdict = Refused refusal place; size = 0 }
+opening_by (Ok _) size = record { verdict = Ok tt; size = size }
+opening_by (Err why) size = record { verdict = Err why; size = 0 }
 
 abbrev pub opening_of : State → List ℕ → ℕ → ℕ → ℕ → Opening
 opening_of s log newest versions results = opening_by (open_verdict s log newest versions results) (entries_in log)
 
 -- the answer and the state after it
 abbrev pub stepped_by : State → Verdict → ℕ → Stepped
-stepped_by s Accepted size = accept (opened s size)
-stepped_by s (Refused refusal place) size = refuse_by s refusal place
+stepped_by s (Ok _) size = accept (opened s size)
+stepped_by s (Err why) size = refuse_by s why.refusal why.place
 
 abbrev pub opened_as : State → Opening → Stepped
 opened_as s opening = stepped_by s opening.verdict opening.size
@@ -48,7 +48,7 @@ turn n log count index below =
 
 -- its verdict lets it pass: the rest decides;
 pub turn_passed : (n : ℕ) (log : List ℕ) (count index : ℕ) (all : Verdict) → index < count
-    → each_in_turn n log (count - index) index ≡ all → (unpack_at_of n log index).verdict ≡ Accepted
+    → each_in_turn n log (count - index) index ≡ all → (unpack_at_of n log index).verdict ≡ Ok tt
     → each_in_turn n log (count - (index + 1)) (index + 1) ≡ all
 turn_passed n log count index all below so_far passed =
     sym (ap (λ v. and_then v (each_in_turn n log (count - (index + 1)) (index + 1))) passed)
@@ -67,7 +67,7 @@ turn_refused n log count index all refusal place below so_far found =
 
 -- none is left
 pub turns_done : (n : ℕ) (log : List ℕ) (count index : ℕ) (all : Verdict) → count ≤ index
-    → each_in_turn n log (count - index) index ≡ all → Accepted ≡ all
+    → each_in_turn n log (count - index) index ≡ all → Ok tt ≡ all
 turns_done n log count index all done so_far =
     let none : 0 ≡ count - index = omega arith in
     ap (λ k. each_in_turn n log k index) none ∙ so_far
@@ -102,7 +102,7 @@ module _ (s : State) (log newest : List ℕ) (versions : List Version) (results 
     where
       go : (v : Verdict)
           → opened_as s (opening_by v (entries_in log)) ≡ (opened_by v s log newest versions results).stepped
-      go Accepted = refl
+      go (Ok tt) = refl
       go (Refused refusal place) = refl
 
   pub open_newest : cond (is_accepted comes_to.verdict) (none_newest newest) newest
@@ -112,7 +112,7 @@ module _ (s : State) (log newest : List ℕ) (versions : List Version) (results 
     where
       go : (v : Verdict) → cond (is_accepted (opening_by v (entries_in log)).verdict) (none_newest newest) newest
           ≡ (opened_by v s log newest versions results).newest
-      go Accepted = refl
+      go (Ok tt) = refl
       go (Refused refusal place) = refl
 
   pub open_versions : clear_of versions (cond (is_accepted comes_to.verdict) (length versions) 0)
@@ -122,7 +122,7 @@ module _ (s : State) (log newest : List ℕ) (versions : List Version) (results 
     where
       go : (v : Verdict) → cond (is_accepted (opening_by v (entries_in log)).verdict) (all_empty versions) versions
           ≡ (opened_by v s log newest versions results).versions
-      go Accepted = refl
+      go (Ok tt) = refl
       go (Refused refusal place) = refl
 
   pub open_results : cond (is_accepted comes_to.verdict) (all_zero results) results
@@ -132,5 +132,5 @@ module _ (s : State) (log newest : List ℕ) (versions : List Version) (results 
     where
       go : (v : Verdict) → cond (is_accepted (opening_by v (entries_in log)).verdict) (all_zero results) results
           ≡ (opened_by v s log newest versions results).results
-      go Accepted = refl
+      go (Ok tt) = refl
       go (Refused refusal place) = refl

@@ -1,11 +1,9 @@
 -- Laws of placing: the way that the code goes.
 use Prim.Native.Nat.{ℕ, ◌+◌}
-use Rattle.std.specs.Prelude.{Bool, true, false, ◌&&◌, cond, List, [], ◌∷◌, ◌≡◌, ltb, length, get_or, set}
+use Rattle.std.specs.Prelude.{Bool, true, false, ◌&&◌, cond, List, [], ◌∷◌, ◌≡◌, ltb, length, get_or, set, Ok, Err}
 use Rattle.std.proofs.Math.Path.{refl}
 use Rattle.std.proofs.Common.{ap, ◌∙◌, le_refl}
 use Rattle.terms.specs.Reserved.{no_slot}
-use Rattle.terms.specs.declared.refusal.Verdict.{Verdict}
-use Rattle.terms.specs.declared.refusal.Verdict.TheVariants.{Accepted, Refused}
 use Rattle.packed.specs.declared.Transaction.{Transaction}
 use Rattle.versions.specs.LawsTable.{link_past}
 use Rattle.versions.specs.Step.{link_of}
@@ -22,6 +20,7 @@ use Rattle.engine.specs.declared.State.{State}
 use Rattle.engine.specs.declared.Stepped.{Stepped}
 use Rattle.engine.specs.declared.place.Placing.{Placing}
 use Rattle.engine.specs.declared.place.Write.{Write}
+use Rattle.terms.specs.Refusals.{Verdict}
 
 -- ---- the plan of a place step
 abbrev pub no_placing : Verdict → Placing
@@ -56,16 +55,16 @@ meets_told partitions p i t newest here told =
     told ∙ ap (λ h. some_below 4 (λ j. meets_at (get_or h j false) i (get_or t.writes j 0) j newest)) here
 
 abbrev pub placing_with : Verdict → State → ℕ → ℕ → Transaction → Placing
-placing_with Accepted s p i t =
+placing_with (Ok _) s p i t =
     record {
-      verdict = Accepted;
+      verdict = Ok tt;
       transaction = i;
       position = position_of s i;
       writes = t.writes;
       here = here_of s.partitions p t;
       count = i + 1;
     }
-placing_with (Refused refusal place) s p i t = no_placing (Refused refusal place)
+placing_with (Err why) s p i t = no_placing (Err why)
 
 abbrev pub placing_of : State → ℕ → List ℕ → List ℕ → ℕ → Placing
 placing_of s p log newest versions =
@@ -94,8 +93,8 @@ make_newest newest write = cond write.here (set newest write.number write.slot) 
 
 -- ---- the answer and the state after it
 abbrev pub placed_by' : State → ℕ → Verdict → ℕ → Stepped
-placed_by' s p Accepted count = accept (with_placed s p count)
-placed_by' s p (Refused refusal place) count = refuse_by s refusal place
+placed_by' s p (Ok _) count = accept (with_placed s p count)
+placed_by' s p (Err why) count = refuse_by s why.refusal why.place
 
 abbrev pub placed_as : State → ℕ → Placing → Stepped
 placed_as s p plan = placed_by' s p plan.verdict plan.count
@@ -139,7 +138,7 @@ module _ (s : State) (p : ℕ) (log newest : List ℕ) (versions : List Version)
     where
       go : (v : Verdict) → placed_as s p (placing_with v s p (placed_by s p) (meaning_at s log (placed_by s p)))
           ≡ (placed_when v s p log tables).stepped
-      go Accepted = refl
+      go (Ok tt) = refl
       go (Refused refusal place) = refl
 
   place_plans : writes_on (placing_of s p log newest (length versions)) tables
@@ -175,7 +174,7 @@ module _ (s : State) (p : ℕ) (log newest : List ℕ) (versions : List Version)
 
       go : (v : Verdict) → writes_on (placing_with v s p (placed_by s p) (meaning_at s log (placed_by s p))) tables
           ≡ (placed_when v s p log tables).plans
-      go Accepted =
+      go (Ok tt) =
           ap (λ q. write_on (write_on (write_on q (write 1)) (write 2)) (write 3)) (one tables 0)
           ∙ ap (λ q. write_on (write_on q (write 2)) (write 3)) (one (place_below 1 s p i t tables) 1)
           ∙ ap (λ q. write_on q (write 3)) (one (place_below 2 s p i t tables) 2)

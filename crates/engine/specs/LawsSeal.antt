@@ -1,10 +1,8 @@
 -- Laws of the seal: the way that the code goes.
-use Rattle.std.specs.Prelude.{ℕ, ◌+◌, ◌*◌, Bool, List, ◌≡◌, length, replicate}
+use Rattle.std.specs.Prelude.{ℕ, ◌+◌, ◌*◌, Bool, List, ◌≡◌, length, replicate, Ok, Err}
 use Rattle.std.proofs.Math.Bool.{cond}
 use Rattle.std.proofs.Math.Path.{refl}
 use Rattle.std.proofs.Common.{◌∙◌}
-use Rattle.terms.specs.declared.refusal.Verdict.{Verdict}
-use Rattle.terms.specs.declared.refusal.Verdict.TheVariants.{Accepted, Refused}
 use Rattle.versions.specs.LawsSeal.{collect_off}
 use Rattle.versions.specs.Seal.{newest_sound_of, collect_of}
 use Rattle.versions.specs.Table.{clear_of}
@@ -16,11 +14,12 @@ use Rattle.engine.specs.Tables.{none_newest, all_empty}
 use Rattle.engine.specs.declared.State.{State}
 use Rattle.engine.specs.declared.Stepped.{Stepped}
 use Rattle.engine.specs.declared.seal.Sealing.{Sealing}
+use Rattle.terms.specs.Refusals.{Verdict}
 
 -- the verdict, with the next position and the batch number where it accepts
 abbrev pub sealing_by : Verdict → ℕ → ℕ → Sealing
-sealing_by Accepted next batch = record { verdict = Accepted; next = next; batch = batch }
-sealing_by (Refused refusal place) next batch = record { verdict = Refused refusal place; next = 0; batch = 0 }
+sealing_by (Ok _) next batch = record { verdict = Ok tt; next = next; batch = batch }
+sealing_by (Err why) next batch = record { verdict = Err why; next = 0; batch = 0 }
 
 abbrev pub sealing_of : State → ℕ → ℕ → ℕ → Bool → Sealing
 sealing_of s records newest versions sound =
@@ -28,7 +27,7 @@ sealing_of s records newest versions sound =
 
 -- the answer and the state after it
 abbrev pub closed_by : State → Verdict → ℕ → ℕ → Stepped
-closed_by s Accepted next batch =
+closed_by s (Ok _) next batch =
     accept
     (record {
       records = s.records;
@@ -41,7 +40,7 @@ closed_by s Accepted next batch =
       rows = s.rows;
       crew = s.crew;
     })
-closed_by s (Refused refusal place) next batch = refuse_by s refusal place
+closed_by s (Err why) next batch = refuse_by s why.refusal why.place
 
 abbrev pub closed_as : State → Sealing → Stepped
 closed_as s sealing = closed_by s sealing.verdict sealing.next sealing.batch
@@ -62,7 +61,7 @@ module _ (s : State) (records newest : List ℕ) (versions : List Version) where
     where
       go : (v : Verdict) → closed_as s (sealing_by v (s.next.0 + s.size) (s.batch.0 + 1))
           ≡ (sealed_by v s records newest versions).stepped
-      go Accepted = refl
+      go (Ok tt) = refl
       go (Refused refusal place) = refl
 
   pub seal_records : collect_of versions newest records (is_accepted comes_to.verdict)
@@ -74,7 +73,7 @@ module _ (s : State) (records newest : List ℕ) (versions : List Version) where
           → collect_of versions newest records
           (is_accepted (sealing_by v (s.next.0 + s.size) (s.batch.0 + 1)).verdict)
           ≡ (sealed_by v s records newest versions).records
-      go Accepted = refl
+      go (Ok tt) = refl
       go (Refused refusal place) = collect_off versions newest records
 
   pub seal_newest : cond (is_accepted comes_to.verdict) (none_newest newest) newest
@@ -85,7 +84,7 @@ module _ (s : State) (records newest : List ℕ) (versions : List Version) where
       go : (v : Verdict)
           → cond (is_accepted (sealing_by v (s.next.0 + s.size) (s.batch.0 + 1)).verdict) (none_newest newest) newest
           ≡ (sealed_by v s records newest versions).newest
-      go Accepted = refl
+      go (Ok tt) = refl
       go (Refused refusal place) = refl
 
   pub seal_versions : clear_of versions (cond (is_accepted comes_to.verdict) (length versions) 0)
@@ -98,5 +97,5 @@ module _ (s : State) (records newest : List ℕ) (versions : List Version) where
           (all_empty versions)
           versions
           ≡ (sealed_by v s records newest versions).versions
-      go Accepted = refl
+      go (Ok tt) = refl
       go (Refused refusal place) = refl

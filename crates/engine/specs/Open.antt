@@ -1,7 +1,8 @@
 -- Opening a batch. "Opening fills the newest-version table with 65,535, the version table with empty entries .. and the
 -- results with 0; all transactions Unprocessed, all workers idle."
-use Rattle.std.specs.Prelude.{ℕ, zero, suc, ◌+◌, ◌%◌, ◌/◌, Bool, ◌||◌, not, List, ltb, eqb, length, replicate}
-use Rattle.terms.specs.Refusals.{refuse_if}
+use Rattle.std.specs.Prelude.{ℕ, zero, suc, ◌+◌, ◌%◌, ◌/◌, Bool, ◌||◌}
+use Rattle.std.specs.Prelude.{not, List, ltb, eqb, length, replicate, Ok, Err}
+use Rattle.terms.specs.Refusals.{refuse_if, Verdict}
 use Rattle.terms.specs.Reserved.{no_end}
 use Rattle.terms.specs.declared.refusal.Refusal.TheVariants.{
   WrongParameter,
@@ -10,8 +11,6 @@ use Rattle.terms.specs.declared.refusal.Refusal.TheVariants.{
   WrongMoment,
   StateOutOfRange,
 }
-use Rattle.terms.specs.declared.refusal.Verdict.{Verdict}
-use Rattle.terms.specs.declared.refusal.Verdict.TheVariants.{Accepted, Refused}
 use Rattle.packed.specs.Unpacking.{unpack_at_of}
 use Rattle.versions.specs.declared.Version.{Version}
 use Rattle.engine.specs.Answers.{accept, refuse_by, and_then}
@@ -45,7 +44,7 @@ entries_in log = length log / 88
 
 -- "each transaction in turn 4 to 8": so many of them, from an index on
 abbrev pub each_in_turn : ℕ → List ℕ → ℕ → ℕ → Verdict
-each_in_turn n log zero index = Accepted
+each_in_turn n log zero index = Ok tt
 each_in_turn n log (suc count) index =
     and_then (unpack_at_of n log index).verdict (each_in_turn n log count (suc index))
 
@@ -81,15 +80,15 @@ opened s n =
     }
 
 abbrev pub opened_by : Verdict → State → List ℕ → List ℕ → List Version → List ℕ → Opened
-opened_by Accepted s log newest versions results =
+opened_by (Ok _) s log newest versions results =
     record {
       stepped = accept (opened s (entries_in log));
       newest = none_newest newest;
       versions = all_empty versions;
       results = all_zero results;
     }
-opened_by (Refused refusal place) s log newest versions results =
-    record { stepped = refuse_by s refusal place; newest = newest; versions = versions; results = results }
+opened_by (Err why) s log newest versions results =
+    record { stepped = refuse_by s why.refusal why.place; newest = newest; versions = versions; results = results }
 
 unfoldable pub open_of : State → List ℕ → List ℕ → List Version → List ℕ → Opened
 open_of s log newest versions results =

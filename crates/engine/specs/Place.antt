@@ -1,9 +1,9 @@
 -- "Place, partition p. Takes the partition's next transaction. For each write in that partition, ascending: begin is
 -- its position, end 2^64 − 1, previous is the newest slot, not produced; a preceding entry's end becomes this
 -- position; the new slot becomes newest. A transaction with no such write only advances the count."
-use Rattle.std.specs.Prelude.{ℕ, zero, suc, ◌+◌, ◌*◌, ◌%◌, Bool, ◌&&◌, ◌||◌}
+use Rattle.std.specs.Prelude.{ℕ, zero, suc, ◌+◌, ◌*◌, ◌%◌, Bool, ◌&&◌, ◌||◌, Ok, Err}
 use Rattle.std.specs.Prelude.{not, cond, List, ltb, leb, eqb, length, get_or, set}
-use Rattle.terms.specs.Refusals.{refuse_if}
+use Rattle.terms.specs.Refusals.{refuse_if, Verdict}
 use Rattle.terms.specs.Reserved.{no_slot}
 use Rattle.terms.specs.declared.refusal.Refusal.TheVariants.{
   WrongParameter,
@@ -14,8 +14,6 @@ use Rattle.terms.specs.declared.refusal.Refusal.TheVariants.{
   StateOutOfRange,
   BrokenTables,
 }
-use Rattle.terms.specs.declared.refusal.Verdict.{Verdict}
-use Rattle.terms.specs.declared.refusal.Verdict.TheVariants.{Accepted, Refused}
 use Rattle.packed.specs.Unpacking.{unpack_at_of}
 use Rattle.packed.specs.declared.Transaction.{Transaction}
 use Rattle.packed.specs.declared.Unpacked.{Unpacked}
@@ -78,7 +76,7 @@ fits partitions p i entry newest =
     -- 4 to 8
     and_then entry.verdict
     -- 15
-    (refuse_if (some_below 4 (meets_wrong partitions p i entry.meaning newest)) BrokenTables 0 Accepted)
+    (refuse_if (some_below 4 (meets_wrong partitions p i entry.meaning newest)) BrokenTables 0 (Ok tt))
 
 -- "Steps check 1, 14, 9, 10, 11, .. then, in place and advance, 2 and the one transaction's 4 to 8, then 15."
 unfoldable pub place_verdict : State → ℕ → List ℕ → List ℕ → ℕ → Verdict
@@ -118,13 +116,13 @@ place_below (suc j) s p i t plans =
     (place_below j s p i t plans)
 
 abbrev pub placed_when : Verdict → State → ℕ → List ℕ → Plans → Placed
-placed_when Accepted s p log plans =
+placed_when (Ok _) s p log plans =
     record {
       stepped = accept (with_placed s p (placed_by s p + 1));
       plans = place_below 4 s p (placed_by s p) (meaning_at s log (placed_by s p)) plans;
     }
-placed_when (Refused refusal place) s p log plans =
-    record { stepped = refuse_by s refusal place; plans = plans }
+placed_when (Err why) s p log plans =
+    record { stepped = refuse_by s why.refusal why.place; plans = plans }
 
 unfoldable pub place_of : State → ℕ → List ℕ → List ℕ → List Version → Placed
 place_of s p log newest versions =

@@ -1,16 +1,14 @@
 -- "Seal. After every transaction is Complete. Each record with a newest version takes its contents. The newest-version
 -- and version tables are emptied as at opening, results and outcomes stay until the next opening, the next position
 -- rises by n, the batch number by 1, and n and all placed counts become 0."
-use Rattle.std.specs.Prelude.{ℕ, ◌+◌, ◌*◌, Bool, true, ◌||◌, not, List, length, replicate}
-use Rattle.terms.specs.Refusals.{refuse_if}
+use Rattle.std.specs.Prelude.{ℕ, ◌+◌, ◌*◌, Bool, true, ◌||◌, not, List, length, replicate, Ok, Err}
+use Rattle.terms.specs.Refusals.{refuse_if, Verdict}
 use Rattle.terms.specs.declared.refusal.Refusal.TheVariants.{
   WrongParameter,
   WrongMoment,
   StateOutOfRange,
   BrokenTables,
 }
-use Rattle.terms.specs.declared.refusal.Verdict.{Verdict}
-use Rattle.terms.specs.declared.refusal.Verdict.TheVariants.{Accepted, Refused}
 use Rattle.versions.specs.Seal.{newest_sound_of, collect_of}
 use Rattle.versions.specs.declared.Version.{Version}
 use Rattle.engine.specs.Answers.{accept, refuse_by}
@@ -42,7 +40,7 @@ seal_verdict s records newest versions sound =
     -- 9
     (refuse_if (not_sealable s) WrongMoment 0
     -- 15: "a followed slot is neither 65,535 nor below 4n"; "a newest version is not produced"
-    (refuse_if (not sound) BrokenTables 0 Accepted)))
+    (refuse_if (not sound) BrokenTables 0 (Ok tt))))
 
 -- "the next position rises by n, the batch number by 1, and n and all placed counts become 0"
 abbrev pub closed : State → State
@@ -60,15 +58,15 @@ closed s =
     }
 
 abbrev pub sealed_by : Verdict → State → List ℕ → List ℕ → List Version → Sealed
-sealed_by Accepted s records newest versions =
+sealed_by (Ok _) s records newest versions =
     record {
       stepped = accept (closed s);
       records = collect_of versions newest records true;
       newest = none_newest newest;
       versions = all_empty versions;
     }
-sealed_by (Refused refusal place) s records newest versions =
-    record { stepped = refuse_by s refusal place; records = records; newest = newest; versions = versions }
+sealed_by (Err why) s records newest versions =
+    record { stepped = refuse_by s why.refusal why.place; records = records; newest = newest; versions = versions }
 
 unfoldable pub seal_of : State → List ℕ → List ℕ → List Version → Sealed
 seal_of s records newest versions =

@@ -1,9 +1,9 @@
 -- Theorems of the calls, for every input: a refused call keeps the state and every lent table; and where a call unpacks
 -- an entry of the log after its other checks, only 4 to 8 can come of that.
-use Rattle.std.specs.Prelude.{ℕ, ◌+◌, ◌*◌, ◌≤◌, Bool, true, false, not, List, ◌≡◌, refl, ltb, leb, eqb, length}
+use Rattle.std.specs.Prelude.{ℕ, ◌+◌, ◌*◌, ◌≤◌, Bool, true, false, not, List, ◌≡◌, refl, ltb, leb, eqb, length, Ok}
 use Rattle.std.proofs.Common.{sym, arith, eqb-true, leb-false}
 use Rattle.std.proofs.lemmas.Bool.{eqb-false, not-false}
-use Rattle.terms.specs.Refusals.{number_of, refuse_if, verdict_number}
+use Rattle.terms.specs.Refusals.{number_of, refuse_if, verdict_number, Verdict}
 use Rattle.terms.specs.Reserved.{no_end}
 use Rattle.terms.specs.declared.refusal.Refusal.{Refusal}
 use Rattle.terms.specs.declared.refusal.Refusal.TheVariants.{
@@ -17,8 +17,6 @@ use Rattle.terms.specs.declared.refusal.Refusal.TheVariants.{
   NotUnprocessed,
   StateOutOfRange,
 }
-use Rattle.terms.specs.declared.refusal.Verdict.{Verdict}
-use Rattle.terms.specs.declared.refusal.Verdict.TheVariants.{Accepted as Passed, Refused as Fails}
 use Rattle.packed.specs.Unpacking.{unpack_at_of}
 use Rattle.packed.specs.declared.Unpacked.{Unpacked}
 use Rattle.versions.specs.Seal.{newest_sound_of}
@@ -75,7 +73,7 @@ refused_open s log newest versions results = go (open_verdict s log (length newe
         × ((opened_by v s log newest versions results).newest ≡ newest)
         × ((opened_by v s log newest versions results).versions ≡ versions)
         × ((opened_by v s log newest versions results).results ≡ results)
-    go Passed refused = never refused
+    go (Ok tt) refused = never refused
     go (Fails refusal at) refused = (refl, refl, refl, refl)
 
 pub refused_place : (s : State) (p : ℕ) (log newest : List ℕ) (versions : List Version)
@@ -91,7 +89,7 @@ refused_place s p log newest versions =
         → ((placed_when v s p log plans).stepped.state ≡ s)
         × ((placed_when v s p log plans).plans.newest ≡ plans.newest)
         × ((placed_when v s p log plans).plans.versions ≡ plans.versions)
-    go Passed plans refused = never refused
+    go (Ok tt) plans refused = never refused
     go (Fails refusal at) plans refused = (refl, refl, refl)
 
 pub refused_claim : (s : State) (w i : ℕ) → is_refused (claim_of s w i).answer ≡ true → (claim_of s w i).state ≡ s
@@ -130,7 +128,7 @@ refused_advance s w log records newest versions results =
         → ((advanced_when v s w log records newest versions results).stepped.state ≡ s)
         × ((advanced_when v s w log records newest versions results).versions ≡ versions)
         × ((advanced_when v s w log records newest versions results).results ≡ results)
-    go Passed =
+    go (Ok tt) =
         let worker = worker_at s w in
         let t = meaning_at s log worker.transaction in
         quiet_keeps (move_of s worker log records newest versions)
@@ -154,7 +152,7 @@ refused_seal s records newest versions =
         × ((sealed_by v s records newest versions).records ≡ records)
         × ((sealed_by v s records newest versions).newest ≡ newest)
         × ((sealed_by v s records newest versions).versions ≡ versions)
-    go Passed refused = never refused
+    go (Ok tt) refused = never refused
     go (Fails refusal at) refused = (refl, refl, refl, refl)
 
 -- ---- "then each transaction in turn 4 to 8"; "the one transaction's 4 to 8"

@@ -92,7 +92,7 @@ fn no_aim(verdict: Verdict) -> Aim
 pub(crate) fn refused_aim(refusal: Refusal) -> Aim
     ensures { result ≡ no_aim (refused refusal 0) }
 {
-    no_aim(Verdict::refuse(refusal, 0))
+    no_aim(Err(refusal.at(0)))
 }
 
 // Number k of a set of four; past the fourth, 0.
@@ -141,8 +141,8 @@ pub(crate) fn aimed(
 {
     let verdict = entry.verdict;
     match verdict {
-        Verdict::Refused(_, _) => no_aim(verdict),
-        Verdict::Accepted => {
+        Err(_) => no_aim(verdict),
+        Ok(()) => {
             let meaning = entry.meaning;
             if acts::is_unfit(worker, meaning) {
                 return refused_aim(Refusal::BrokenTables);
@@ -244,11 +244,11 @@ pub(crate) fn turn_by(aim: Aim, seen: Seen) -> Turn
     let transaction = aim.worker.transaction;
     let verdict = aim.verdict;
     match verdict {
-        Verdict::Refused(refusal, place) => {
-            let step = moves::keeps(refusal, place);
+        Err(why) => {
+            let step = moves::keeps(why.refusal, why.place);
             Turn { transaction, step }
         }
-        Verdict::Accepted => {
+        Ok(()) => {
             let act = aim.act;
             let step = moves::move_by(act, aim.worker, aim.writecount, aim.decision, seen);
             Turn { transaction, step }

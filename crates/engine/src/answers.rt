@@ -77,7 +77,7 @@ pub(crate) fn is_accepted(verdict: Verdict) -> bool
     ensures { result ≡ is_accepted verdict }
 {
     match verdict {
-        Verdict::Accepted => true,
-        Verdict::Refused(_, _) => false,
+        Ok(()) => true,
+        Err(_) => false,
     }
 }

@@ -4,7 +4,7 @@ ghost use Rattle.engine.specs.Make.{wrong_parameter, make_of};
 ghost use Rattle.engine.specs.States.{unopened};
 
 use crate::{Made, State, rows, workers};
-use terms::{BatchNumber, Position, Refusal, Verdict};
+use terms::{BatchNumber, Position, Refusal};
 
 fn is_wrong_parameter(n: usize, p: usize, w: usize, start: Position) -> bool
     ensures { result ≡ wrong_parameter n p w start.0 }
@@ -37,13 +37,13 @@ impl State {
         ensures { result ≡ make_of n p w start.0 }
     {
         if is_wrong_parameter(n, p, w, start) {
-            let verdict = Verdict::refuse(Refusal::WrongParameter, 0);
+            let verdict = Err(Refusal::WrongParameter.at(0));
             let state = fresh(0, 0, 0, 0);
             return Made { verdict, state };
         }
         let state = fresh(n as u16, p as u8, w as u8, start.0);
         Made {
-            verdict: Verdict::Accepted,
+            verdict: Ok(()),
             state,
         }
     }

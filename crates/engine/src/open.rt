@@ -42,22 +42,22 @@ fn each_in_turn(log: &[u8], n: usize, count: usize) -> Verdict
         let entry = unpack_at(log, index, n);
         let verdict = entry.verdict;
         match verdict {
-            Verdict::Accepted => {}
-            Verdict::Refused(_, _) => {
+            Ok(()) => {}
+            Err(_) => {
                 return verdict;
             }
         }
         index += 1;
     }
-    Verdict::Accepted
+    Ok(())
 }
 
 fn sized(verdict: Verdict, size: u8) -> Opening
     ensures { result ≡ opening_by verdict size }
 {
     match verdict {
-        Verdict::Accepted => Opening { verdict, size },
-        Verdict::Refused(_, _) => Opening { verdict, size: 0 },
+        Ok(()) => Opening { verdict, size },
+        Err(_) => Opening { verdict, size: 0 },
     }
 }
 
@@ -72,7 +72,7 @@ pub(crate) fn opens(opening: Opening) -> bool
 fn refused_opening(refusal: Refusal) -> Opening
     ensures { result ≡ opening_by (refused refusal 0) 0 }
 {
-    sized(Verdict::refuse(refusal, 0), 0)
+    sized(Err(refusal.at(0)), 0)
 }
 
 impl State {
@@ -128,7 +128,7 @@ impl State {
     {
         let verdict = opening.verdict;
         match verdict {
-            Verdict::Accepted => {
+            Ok(()) => {
                 let row = rows::unprocessed();
                 let worker = workers::idle();
                 self.size = opening.size;
@@ -136,7 +136,7 @@ impl State {
                 self.crew = [worker; 8];
                 self.accepted()
             }
-            Verdict::Refused(refusal, place) => self.refused_by(refusal, place),
+            Err(why) => self.refused_by(why.refusal, why.place),
         }
     }
 

@@ -102,7 +102,7 @@ fn no_placing(verdict: Verdict) -> Placing
 pub(crate) fn refused_placing(refusal: Refusal) -> Placing
     ensures { result ≡ no_placing (refused refusal 0) }
 {
-    no_placing(Verdict::refuse(refusal, 0))
+    no_placing(Err(refusal.at(0)))
 }
 
 impl State {
@@ -128,8 +128,8 @@ impl State {
     {
         let verdict = entry.verdict;
         match verdict {
-            Verdict::Refused(_, _) => no_placing(verdict),
-            Verdict::Accepted => {
+            Err(_) => no_placing(verdict),
+            Ok(()) => {
                 let meaning = entry.meaning;
                 let writes = meaning.writes;
                 let here = here_of(self.partitions, p, meaning);
@@ -197,8 +197,8 @@ impl State {
     {
         let verdict = plan.verdict;
         match verdict {
-            Verdict::Accepted => { self.with_placed(p, plan.count).accepted() }
-            Verdict::Refused(refusal, place) => self.refused_by(refusal, place),
+            Ok(()) => { self.with_placed(p, plan.count).accepted() }
+            Err(why) => self.refused_by(why.refusal, why.place),
         }
     }
 }

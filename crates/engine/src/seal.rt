@@ -21,7 +21,7 @@ pub(crate) fn refused_seal(refusal: Refusal) -> Sealing
     ensures { result ≡ sealing_by (refused refusal 0) 0 0 }
 {
     Sealing {
-        verdict: Verdict::refuse(refusal, 0),
+        verdict: Err(refusal.at(0)),
         next: 0,
         batch: 0,
     }
@@ -75,7 +75,7 @@ impl State {
             return refused_seal(Refusal::BrokenTables);
         }
         Sealing {
-            verdict: Verdict::Accepted,
+            verdict: Ok(()),
             next: self.next.0 + self.size as u64,
             batch: self.batch.0 + 1,
         }
@@ -88,7 +88,7 @@ impl State {
     {
         let verdict = sealing.verdict;
         match verdict {
-            Verdict::Accepted => {
+            Ok(()) => {
                 let rows = self.rows;
                 let crew = self.crew;
                 let state = State {
@@ -104,7 +104,7 @@ impl State {
                 };
                 state.accepted()
             }
-            Verdict::Refused(refusal, place) => self.refused_by(refusal, place),
+            Err(why) => self.refused_by(why.refusal, why.place),
         }
     }
 

@@ -18,8 +18,8 @@ pub struct Asked {
 
 fn answer_of(verdict: Verdict) -> Answer {
     match verdict {
-        Verdict::Accepted => Answer::Accepted,
-        Verdict::Refused(refusal, place) => Answer::Refused(refusal, place),
+        Ok(()) => Answer::Accepted,
+        Err(why) => Answer::Refused(why.refusal, why.place),
     }
 }
 

@@ -1,6 +1,6 @@
 -- Wrong answers of the functions of `packed`, at small entries. Beside each stands the edit that gives it;
 -- tools/try-edits tries them again.
-use Rattle.std.specs.Prelude.{ℕ, List, [], ◌∷◌, ◌++◌, refl, set, replicate}
+use Rattle.std.specs.Prelude.{ℕ, List, [], ◌∷◌, ◌++◌, refl, set, replicate, Ok}
 use Rattle.terms.specs.declared.refusal.Refusal.{Refusal}
 use Rattle.terms.specs.declared.refusal.Refusal.TheVariants.{
   WrongLength,
@@ -9,7 +9,6 @@ use Rattle.terms.specs.declared.refusal.Refusal.TheVariants.{
   UndeclaredRead,
   UndeclaredWrite,
 }
-use Rattle.terms.specs.declared.refusal.Verdict.TheVariants.{Accepted, Refused}
 use Rattle.little.specs.Little.{number_in, bytes_of}
 use Rattle.packed.specs.Checks.{entry_verdict, verdict_of}
 use Rattle.packed.specs.Decode.{action_of, decode, nothing}
@@ -48,7 +47,7 @@ counting count t =
 
 -- the bytes are taken for what they mean
 abbrev accepts : List ℕ → Unpacked
-accepts b = unpacked Accepted (decode b)
+accepts b = unpacked (Ok tt) (decode b)
 
 -- they are refused, with this place
 abbrev refuses : Refusal → ℕ → Unpacked
@@ -118,9 +117,9 @@ rows =
     -- pack: reads packed as writes (reads_packed_as_writes); a buffer of 88 bytes refused (buffer_refused); a constant
     -- with its high byte first (constant_exchanged)
     ∷ row packed_parts (pack_of 4 (transaction (1 ∷ []) (2 ∷ []) []) zeros)
-    (packed Accepted (encode (transaction (1 ∷ []) (1 ∷ []) [])))
+    (packed (Ok tt) (encode (transaction (1 ∷ []) (1 ∷ []) [])))
     ∷ row packed_parts (pack_of 4 setting zeros) (packed (Refused WrongLength (at 0)) zeros)
-    ∷ row packed_parts (pack_of 4 setting zeros) (packed Accepted (set (set (encode setting) 32 0) 39 7))
+    ∷ row packed_parts (pack_of 4 setting zeros) (packed (Ok tt) (set (set (encode setting) 32 0) 39 7))
     ∷ []
 
 pub packed_exclude : AllExclude rows

@@ -1,12 +1,10 @@
 -- Wrong answers of the functions of `terms`, beside those that the gate tries as edits (crates/terms/must-fail). Edits
 -- that give these stand in tools/edits/terms.
 use Rattle.std.specs.Prelude.{ℕ, true, false, List, [], ◌∷◌, refl, eqb}
-use Rattle.terms.specs.Refusals.{number_of, place_of, refused, verdict_number, verdict_place}
+use Rattle.terms.specs.Refusals.{number_of, place_of, refused, verdict_number, verdict_place, Verdict}
 use Rattle.terms.specs.Reserved.{no_slot, no_end}
 use Rattle.terms.specs.declared.refusal.Place.{Place}
 use Rattle.terms.specs.declared.refusal.Refusal.TheVariants.{WrongLength, Malformed, NotAscending}
-use Rattle.terms.specs.declared.refusal.Verdict.{Verdict}
-use Rattle.terms.specs.declared.refusal.Verdict.TheVariants.{Refused}
 use Rattle.excluded.specs.Rows.{Row, row, number, mark, AllExclude, all_exclude}
 
 -- ---- the parts of an answer

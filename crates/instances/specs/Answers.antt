@@ -1,5 +1,5 @@
 -- Wrong answers of making a store, and of the three numbers that an answer has.
-use Rattle.std.specs.Prelude.{ℕ, ◌≤◌, ◌≡◌}
+use Rattle.std.specs.Prelude.{ℕ, ◌≤◌, ◌≡◌, Ok}
 use Rattle.std.proofs.Common.{ap, arith}
 use Rattle.terms.specs.Refusals.{number_of}
 use Rattle.terms.specs.declared.refusal.Place.{Place}
@@ -21,7 +21,6 @@ use Rattle.terms.specs.declared.refusal.Refusal.TheVariants.{
   StateOutOfRange,
   BrokenTables,
 }
-use Rattle.terms.specs.declared.refusal.Verdict.TheVariants.{Accepted as Passed}
 use Rattle.engine.specs.Answers.{answer_number, answer_place, answer_position}
 use Rattle.engine.specs.Make.{make_of}
 use Rattle.engine.specs.declared.Answer.TheVariants.{Waits, Refused}
@@ -29,11 +28,11 @@ use Rattle.engine.specs.declared.State.{State}
 use Rattle.instances.specs.Differences.{passed_fails}
 
 -- nine partitions, and a first position of 0, whatever the store that is handed back
-pub nine_partitions_accepted : (s : State) → record { verdict = Passed; state = s } ≡ make_of 4 9 2 1 → ⊥
+pub nine_partitions_accepted : (s : State) → record { verdict = Ok tt; state = s } ≡ make_of 4 9 2 1 → ⊥
 unfolding make_of
 nine_partitions_accepted s same = passed_fails (ap (λ r. r.verdict) same)
 
-pub no_position_accepted : (s : State) → record { verdict = Passed; state = s } ≡ make_of 4 2 2 0 → ⊥
+pub no_position_accepted : (s : State) → record { verdict = Ok tt; state = s } ≡ make_of 4 2 2 0 → ⊥
 unfolding make_of
 no_position_accepted s same = passed_fails (ap (λ r. r.verdict) same)
 

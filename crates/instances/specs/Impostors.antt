@@ -6,7 +6,6 @@ use Rattle.std.proofs.Common.{sym, ap, ◌∙◌, arith}
 use Rattle.std.proofs.Math.ListN.{get_or}
 use Rattle.terms.specs.declared.refusal.Place.{Place}
 use Rattle.terms.specs.declared.refusal.Refusal.{Refusal}
-use Rattle.terms.specs.declared.refusal.Verdict.TheVariants.{Refused as Fails}
 use Rattle.versions.specs.Table.{entry_of}
 use Rattle.versions.specs.declared.Version.{Version}
 use Rattle.engine.specs.Make.{make_of}

@@ -1,13 +1,11 @@
 -- Two more of document 01's impostors: one that runs the whole batch at its first step and then pretends, and one whose
 -- step or wait numbers are invented. That a later step which changes nothing is no answer is said in `Impostors`
 -- (`place_idle_later`, `claim_idle`, `advance_idle`, `seal_idle`).
-use Rattle.std.specs.Prelude.{ℕ, zero, suc, Bool, true, false, cond, List, []}
+use Rattle.std.specs.Prelude.{ℕ, zero, suc, Bool, true, false, cond, List, [], Ok}
 use Rattle.std.specs.Prelude.{◌∷◌, map, ◌≢◌, ◌≡◌, refl, length, get_or, replicate}
 use Rattle.std.proofs.Common.{sym, ap, ◌∙◌}
 use Rattle.terms.specs.declared.refusal.Place.{Place}
 use Rattle.terms.specs.declared.refusal.Refusal.{Refusal}
-use Rattle.terms.specs.declared.refusal.Verdict.{Verdict}
-use Rattle.terms.specs.declared.refusal.Verdict.TheVariants.{Accepted as Passed, Refused as Fails}
 use Rattle.packed.specs.declared.Transaction.{Transaction}
 use Rattle.versions.specs.Entry.{empty_entry, linked_of, ended_of}
 use Rattle.versions.specs.Step.{preceding_of, end_at, link_of}
@@ -32,6 +30,7 @@ use Rattle.instances.specs.Moments.{waiting, PlaceAt, AdvanceAt}
 use Rattle.engine.specs.Running.{Offer, place, claim, advance, seal, Engine, Turn, offered}
 use Rattle.instances.specs.Steps.{played}
 use Rattle.instances.specs.Steps.{refused_in, waits_in}
+use Rattle.terms.specs.Refusals.{Verdict}
 
 -- ---- one that runs the whole batch at its first step
 
@@ -47,7 +46,7 @@ place_keeps_rows s p bytes newest versions r newest_exit versions_exit met =
     go : (v : Verdict)
         → ((placed_when v s p bytes (record { newest = newest; versions = versions })).stepped.state.rows ≡ s.rows)
         × ((placed_when v s p bytes (record { newest = newest; versions = versions })).stepped.state.crew ≡ s.crew)
-    go Passed = (refl, refl)
+    go (Ok tt) = (refl, refl)
     go (Fails refusal at) = (refl, refl)
 
 -- an entry put in a table is marked only if the entry that it takes the place of was: then nothing more is marked
@@ -102,7 +101,7 @@ place_produces_nothing s p bytes newest versions r newest_exit versions_exit met
         → (entry_of (placed_when v s p bytes (record { newest = newest; versions = versions })).plans.versions slot
         ).produced ≡ true
         → (entry_of versions slot).produced ≡ true
-    go Passed then =
+    go (Ok tt) then =
         below_marks 4 s p (placed_by s p) (meaning_at s bytes (placed_by s p))
         (record { newest = newest; versions = versions }) slot then
     go (Fails refusal at) then = then

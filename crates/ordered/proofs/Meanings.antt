@@ -1,8 +1,6 @@
 -- The transactions of a log whose entries the opening accepts, each in turn.
-use Rattle.std.specs.Prelude.{ℕ, zero, suc, ◌+◌, ◌/◌, ◌<◌, ◌≡◌, refl, List, map, leb, length, get_or}
+use Rattle.std.specs.Prelude.{ℕ, zero, suc, ◌+◌, ◌/◌, ◌<◌, ◌≡◌, refl, List, map, leb, length, get_or, Ok, Err}
 use Rattle.std.proofs.Common.{sym, ap, ◌∙◌, arith}
-use Rattle.terms.specs.declared.refusal.Verdict.{Verdict}
-use Rattle.terms.specs.declared.refusal.Verdict.TheVariants.{Accepted, Refused}
 use Rattle.packed.specs.Checks.{verdict_of}
 use Rattle.packed.specs.Decode.{decode}
 use Rattle.packed.specs.LawsVerdict.{sound, unpacked_verdict}
@@ -16,18 +14,19 @@ use Rattle.order.specs.ListRun as listed
 use Rattle.order.specs.TableLaws.{clash}
 use Rattle.ordered.specs.Counters.{ruled}
 use Rattle.ordered.specs.Promise.{meanings_from}
+use Rattle.terms.specs.Refusals.{Verdict}
 
 pub meanings_length : (n : ℕ) (log : List ℕ) (count index : ℕ) → length (meanings_from n log count index) ≡ count
 meanings_length n log zero index = refl
 meanings_length n log (suc count) index = ap suc (meanings_length n log count (suc index))
 
 -- each in turn was accepted
-pub both_passed : (first later : Verdict) → and_then first later ≡ Accepted → (first ≡ Accepted) × (later ≡ Accepted)
-both_passed Accepted later passed = (refl, passed)
-both_passed (Refused refusal place) later passed = absurd (clash (cc))
+pub both_passed : (first later : Verdict) → and_then first later ≡ Ok tt → (first ≡ Ok tt) × (later ≡ Ok tt)
+both_passed (Ok _) later passed = (refl, passed)
+both_passed (Err why) later passed = absurd (clash (cc))
 
-pub turn_accepted : (n : ℕ) (log : List ℕ) (count index k : ℕ) → each_in_turn n log count index ≡ Accepted → k < count
-    → (unpack_at_of n log (index + k)).verdict ≡ Accepted
+pub turn_accepted : (n : ℕ) (log : List ℕ) (count index k : ℕ) → each_in_turn n log count index ≡ Ok tt → k < count
+    → (unpack_at_of n log (index + k)).verdict ≡ Ok tt
 turn_accepted n log zero index k passed below = absurd (omega (arith, below))
 turn_accepted n log (suc count) index zero passed below =
     let same : index + 0 ≡ index = omega arith in
@@ -40,17 +39,17 @@ turn_accepted n log (suc count) index (suc k) passed below =
     (arith, below)))
 
 -- so its meaning declares what it uses
-pub accepted_declared : (n : ℕ) (log : List ℕ) (index : ℕ) → (unpack_at_of n log index).verdict ≡ Accepted
+pub accepted_declared : (n : ℕ) (log : List ℕ) (index : ℕ) → (unpack_at_of n log index).verdict ≡ Ok tt
     → Declared n (unpack_at_of n log index).meaning
 unfolding unpack_at_of
 accepted_declared n log index accepted =
     let verdict = verdict_of n index (leb (length log / 88) index) (entry_of log index) in
-    let is : verdict ≡ Accepted = sym (unpacked_verdict verdict (decode (entry_of log index))) ∙ accepted in
+    let is : verdict ≡ Ok tt = sym (unpacked_verdict verdict (decode (entry_of log index))) ∙ accepted in
     rw is
     (proper_declared n (entry_of log index)
     (sound n index (leb (length log / 88) index) (entry_of log index) is).entry_proper)
 
-pub all_declared : (n : ℕ) (log : List ℕ) (count index : ℕ) → each_in_turn n log count index ≡ Accepted
+pub all_declared : (n : ℕ) (log : List ℕ) (count index : ℕ) → each_in_turn n log count index ≡ Ok tt
     → AllDeclared n (meanings_from n log count index)
 all_declared n log zero index passed = tt
 all_declared n log (suc count) index passed =

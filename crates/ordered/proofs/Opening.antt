@@ -1,5 +1,6 @@
 -- An accepted opening: the batch that it opens, and that the engine stands in the machine's opened state.
-use Rattle.std.specs.Prelude.{ℕ, ◌+◌, ◌*◌, ◌%◌, ◌/◌, ◌≤◌, ◌<◌, false, ◌||◌, not, ◌≡◌, List, map, get_or, replicate}
+use Rattle.std.specs.Prelude.{ℕ, ◌+◌, ◌*◌, ◌%◌, ◌/◌, ◌≤◌, ◌<◌, false}
+use Rattle.std.specs.Prelude.{◌||◌, not, ◌≡◌, List, map, get_or, replicate, Ok}
 use Rattle.std.proofs.Math.Path.{refl, ap}
 use Rattle.std.proofs.Common.{sym, ◌∙◌, arith, get_or-take, length-take-le}
 use Rattle.std.proofs.Math.Nat.{mod-lt}
@@ -9,7 +10,6 @@ use Rattle.std.proofs.Math.ListN.{length, length-replicate, get_or-eq_default}
 use Rattle.std.proofs.lemmas.List.{length-map, get_or-replicate}
 use borrow.Author.Tests.{eqb-true, eqb-false, ltb-false, not-false}
 use Rattle.terms.specs.Reserved.{no_slot, no_end}
-use Rattle.terms.specs.declared.refusal.Verdict.TheVariants.{Accepted}
 use Rattle.packed.specs.Decode.{nothing}
 use Rattle.packed.specs.LawsForm.{not_left, not_right}
 use Rattle.packed.specs.Unpacking.{unpack_at_of}
@@ -52,7 +52,7 @@ get_d_all count k x = go (dec_lt k count)
 -- ---- what an accepted opening tells
 
 module _ (s : State) (log : List ℕ) (newest versions results : ℕ)
-    (accepts : open_verdict s log newest versions results ≡ Accepted) where
+    (accepts : open_verdict s log newest versions results ≡ Ok tt) where
   pub record Opens : Type 0 where
     pub newest_right : newest ≡ s.records
     pub versions_right : versions ≡ 256
@@ -63,7 +63,7 @@ module _ (s : State) (log : List ℕ) (newest versions results : ℕ)
     pub some_entry : 1 ≤ entries_in log
     pub few_entries : entries_in log ≤ 64
     pub positions_last : s.next.0 + entries_in log ≤ no_end
-    pub each : each_in_turn s.records log (entries_in log) 0 ≡ Accepted
+    pub each : each_in_turn s.records log (entries_in log) 0 ≡ Ok tt
 
   pub opens : Opens
   unfolding open_verdict
@@ -123,7 +123,7 @@ setting_of s log stored =
     }
 
 module _ (s : State) (log stored : List ℕ) (newest versions results : ℕ)
-    (accepts : open_verdict s log newest versions results ≡ Accepted) (as_many : length stored ≡ s.records) where
+    (accepts : open_verdict s log newest versions results ≡ (Ok _)) (as_many : length stored ≡ s.records) where
   open_facts : Opens s log newest versions results accepts
   open_facts = opens s log newest versions results accepts
 
@@ -162,7 +162,7 @@ module _ (s : State) (log stored : List ℕ) (newest versions results : ℕ)
       meaning_at_lem s.records log (entries_in log) 0 i (ruled nothing) below
       ∙ ap (λ k. ruled (unpack_at_of s.records log k).meaning) same
 
-  is_accepted_lem : (i : ℕ) → i < entries_in log → (unpack_at_of s.records log i).verdict ≡ Accepted
+  is_accepted_lem : (i : ℕ) → i < entries_in log → (unpack_at_of s.records log i).verdict ≡ Ok tt
   is_accepted_lem i below =
       let same : 0 + i ≡ i = omega arith in
       ap (λ k. (unpack_at_of s.records log k).verdict) (sym same)
@@ -225,7 +225,7 @@ module _ (s : State) (log stored : List ℕ) (newest versions results : ℕ)
 -- ---- the engine just opened
 
 module _ (s : State) (log stored : List ℕ) (newest : List ℕ) (table : List Version) (results : List ℕ)
-    (accepts : open_verdict s log (length newest) (length table) (length results) ≡ Accepted)
+    (accepts : open_verdict s log (length newest) (length table) (length results) ≡ (Ok _))
     (eight : length s.placed ≡ 8) where
   facts : Opens s log (length newest) (length table) (length results) accepts
   facts = opens s log (length newest) (length table) (length results) accepts

@@ -1,14 +1,12 @@
 -- An engine after an accepted opening and any list of offers: what has become of it, by the order theorem.
 use Prim.Native.Nat.{ℕ, ◌≤◌, ◌<◌}
-use Rattle.std.specs.Prelude.{Bool, ◌≡◌, refl, List, [], ◌∷◌, ◌++◌, map, length, take}
+use Rattle.std.specs.Prelude.{Bool, ◌≡◌, refl, List, [], ◌∷◌, ◌++◌, map, length, take, Ok}
 use Rattle.std.proofs.Math.Bool.{true, false}
 use Rattle.std.proofs.Common.{sym, ◌∙◌, subst, arith, take_all}
 use Rattle.std.proofs.Math.Path.{ap}
 use Rattle.std.proofs.Math.Decide.{ℕ_discrete}
 use Rattle.std.proofs.lemmas.List.{length-map}
 use Rattle.terms.specs.declared.position.Position.{Position}
-use Rattle.terms.specs.declared.refusal.Verdict.{Verdict}
-use Rattle.terms.specs.declared.refusal.Verdict.TheVariants.{Accepted as Passed, Refused as Fails}
 use Rattle.packed.specs.LawsRecords.{not_both}
 use Rattle.counters.specs.declared.Outcome.{Outcome}
 use Rattle.engine.specs.Answers.{is_refused, answer_number}
@@ -50,6 +48,7 @@ use Rattle.ordered.specs.Relation.{Stands}
 use Rattle.engine.specs.Running.{Engine, Offer, advance, seal, Turn, is_accepted, opening, offered, after_all}
 use Rattle.engine.specs.Running.{seal_accepted, all_accepted}
 use Rattle.ordered.specs.Stepping.{reply_to}
+use Rattle.terms.specs.Refusals.{Verdict}
 
 map_end : {X Y : Type 0} (f : X → Y) (xs : List X) (x : X) → map f (xs ++ (x ∷ [])) ≡ map f xs ++ (f x ∷ [])
 map_end f [] x = refl
@@ -61,17 +60,17 @@ abbrev pub verdict_of : List ℕ → Engine → Verdict
 verdict_of log e = open_verdict e.state log (length e.newest) (length e.versions) (length e.results)
 
 pub opening_verdict : (log : List ℕ) (e : Engine) → is_accepted (opening log e).answer ≡ true
-    → verdict_of log e ≡ Passed
+    → verdict_of log e ≡ Ok tt
 unfolding opening open_of
 opening_verdict log e accepted = go (verdict_of log e) refl accepted
   where
     go : (verdict : Verdict) → verdict_of log e ≡ verdict
         → is_accepted (opened_by verdict e.state log e.newest e.versions e.results).stepped.answer ≡ true
-        → verdict_of log e ≡ Passed
-    go Passed is passed = is
+        → verdict_of log e ≡ Ok tt
+    go (Ok tt) is passed = is
     go (Fails refusal at) is passed = not_both (sym passed)
 
-module _ (log : List ℕ) (e : Engine) (eight : length e.state.placed ≡ 8) (accepts : verdict_of log e ≡ Passed) where
+module _ (log : List ℕ) (e : Engine) (eight : length e.state.placed ≡ 8) (accepts : verdict_of log e ≡ (Ok _)) where
   -- the engine just opened
   abbrev pub start : Engine
   start = just_opened e.state log e.records e.newest e.versions e.results accepts eight
@@ -213,7 +212,7 @@ module _ (log : List ℕ) (e : Engine) (eight : length e.state.placed ≡ 8) (ac
 
 module _ (log : List ℕ) (e : Engine) (eight : length e.state.placed ≡ 8)
     (opens : is_accepted (opening log e).answer ≡ true) (offers : List Offer) where
-  accepts : verdict_of log e ≡ Passed
+  accepts : verdict_of log e ≡ (Ok _)
   accepts = opening_verdict log e opens
 
   now : (opening log e).engine ≡ start log e eight accepts

@@ -1,11 +1,9 @@
 -- An advance, in a state that the engine reaches.
-use Rattle.std.specs.Prelude.{ℕ, ◌<◌, false, ◌≡◌, List, leb, length}
+use Rattle.std.specs.Prelude.{ℕ, ◌<◌, false, ◌≡◌, List, leb, length, Ok}
 use Rattle.std.proofs.Math.Option.{some}
 use Rattle.std.proofs.Math.Path.{refl}
 use Rattle.std.proofs.Common.{sym, ◌∙◌, arith}
 use borrow.Author.Tests.{leb-false}
-use Rattle.terms.specs.declared.refusal.Verdict.{Verdict}
-use Rattle.terms.specs.declared.refusal.Verdict.TheVariants.{Accepted as Passed, Refused as Fails}
 use Rattle.packed.specs.LawsRecords.{not_both}
 use Rattle.counters.specs.declared.Outcome.{Outcome}
 use Rattle.engine.specs.Advance.{wrong_for_advance, advance_verdict, advanced_when, advance_of}
@@ -27,6 +25,7 @@ use Rattle.ordered.specs.Relation.{Stands}
 use Rattle.engine.specs.Running.{Engine, offered}
 use Rattle.engine.specs.Running as running
 use Rattle.ordered.specs.Stepping.{reply_to, offer_to, Makes}
+use Rattle.terms.specs.Refusals.{Verdict}
 
 module _ (B : order.Batch ℕ Outcome) (o : State) (log stored : List ℕ) (d : Describes B o log stored)
     (e : Engine) (m : machine.State ℕ Outcome) (stands : Stands o stored e m) (sound : invariant.Sound B m) where
@@ -62,7 +61,7 @@ module _ (B : order.Batch ℕ Outcome) (o : State) (log stored : List ℕ) (d : 
       advance_verdict e.state w log (length e.records) (length e.newest) (length e.versions)
       (length e.results)
 
-  advance_passed : (w : ℕ) → verdict w ≡ Passed → CanAdvance w
+  advance_passed : (w : ℕ) → verdict w ≡ Ok tt → CanAdvance w
   unfolding advance_verdict
   advance_passed w passed =
       let tables =
@@ -95,5 +94,5 @@ module _ (B : order.Batch ℕ Outcome) (o : State) (log stored : List ℕ) (d : 
           (advanced_when x e.state w log e.records e.newest e.versions e.results))
           ≡ store.accepted answer next
           → CanAdvance w
-      go Passed is reply = advance_passed w is
+      go (Ok tt) is reply = advance_passed w is
       go (Fails refusal at) is reply = absurd (clash (cc))

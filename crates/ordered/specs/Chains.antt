@@ -1,28 +1,26 @@
 -- Chains of checks: what passing one tells; and tests over the numbers below a bound.
-use Rattle.std.specs.Prelude.{ℕ, zero, suc, ◌≤◌, ◌<◌, Bool, true, false, ◌&&◌, ◌||◌, ◌≡◌, refl}
+use Rattle.std.specs.Prelude.{ℕ, zero, suc, ◌≤◌, ◌<◌, Bool, true, false, ◌&&◌, ◌||◌, ◌≡◌, refl, Ok, Err}
 use Rattle.std.proofs.Common.{subst, arith}
 use Rattle.std.proofs.Math.Decide.{dec_lt}
-use Rattle.terms.specs.Refusals.{refuse_if}
+use Rattle.terms.specs.Refusals.{refuse_if, Verdict}
 use Rattle.terms.specs.declared.refusal.Refusal.{Refusal}
-use Rattle.terms.specs.declared.refusal.Verdict.{Verdict}
-use Rattle.terms.specs.declared.refusal.Verdict.TheVariants.{Accepted, Refused}
 use Rattle.engine.specs.Counting.{some_below}
 use Rattle.order.specs.TableLaws.{clash}
 
 -- a check that is passed: its fault is not there, and the rest is passed
 pub record Passes (fault : Bool) (rest : Verdict) : Type 0 where
   pub no_fault : fault ≡ false
-  pub onward : rest ≡ Accepted
+  pub onward : rest ≡ Ok tt
 
 pub passes : (fault : Bool) (refusal : Refusal) (transaction : ℕ) (rest : Verdict)
-    → refuse_if fault refusal transaction rest ≡ Accepted → Passes fault rest
+    → refuse_if fault refusal transaction rest ≡ Ok tt → Passes fault rest
 passes true refusal transaction rest accepted = absurd (clash (cc))
 passes false refusal transaction rest accepted = record { no_fault = refl; onward = accepted }
 
 -- a verdict that refuses
 abbrev pub IsRefused : Verdict → Type 0
-IsRefused Accepted = ⊥
-IsRefused (Refused refusal place) = Unit {0}
+IsRefused (Ok _) = ⊥
+IsRefused (Err why) = Unit {0}
 
 -- where a later check refuses, the chain does, by it or by an earlier one
 pub refused_later : (fault : Bool) (refusal : Refusal) (transaction : ℕ) (rest : Verdict) → IsRefused rest

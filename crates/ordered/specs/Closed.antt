@@ -1,10 +1,8 @@
 -- After an accepted seal no batch is open, and every step is refused, by 9 or by an earlier check.
-use Rattle.std.specs.Prelude.{ℕ, ◌*◌, Bool, ◌≡◌, List, length}
+use Rattle.std.specs.Prelude.{ℕ, ◌*◌, Bool, ◌≡◌, List, length, Ok}
 use Rattle.std.proofs.Math.Bool.{true, false}
 use Rattle.std.proofs.Math.Path.{refl}
 use Rattle.terms.specs.declared.refusal.Refusal.TheVariants.{WrongParameter, StateOutOfRange, WrongMoment}
-use Rattle.terms.specs.declared.refusal.Verdict.{Verdict}
-use Rattle.terms.specs.declared.refusal.Verdict.TheVariants.{Accepted, Refused}
 use Rattle.versions.specs.Seal.{newest_sound_of}
 use Rattle.engine.specs.Advance.{wrong_for_advance, advance_verdict, advanced_when, advance_of}
 use Rattle.engine.specs.Answers.{refuse, refuse_if}
@@ -19,6 +17,7 @@ use Rattle.ordered.specs.Chains.{IsRefused, refused_later}
 use Rattle.engine.specs.Running.{Engine, place, claim, advance, seal, offered}
 use Rattle.engine.specs.Running as running
 use Rattle.ordered.specs.Stepping.{reply_to, offer_to}
+use Rattle.terms.specs.Refusals.{Verdict}
 
 module _ (log : List ℕ) (e : Engine) (none_open : no_batch e.state ≡ true) where
   place_refused : (p : ℕ) → reply_to (offered log e (place p)) ≡ store.refused
@@ -33,7 +32,7 @@ module _ (log : List ℕ) (e : Engine) (none_open : no_batch e.state ≡ true) w
           (running.after_place e
           (placed_when verdict e.state p log (record { newest = e.newest; versions = e.versions })))
           ≡ store.refused
-      go Accepted refused = absurd refused
+      go (Ok tt) refused = absurd refused
       go (Refused refusal at) refused = refl
 
   claim_refused : (w i : ℕ) → reply_to (offered log e (claim w i)) ≡ store.refused
@@ -62,7 +61,7 @@ module _ (log : List ℕ) (e : Engine) (none_open : no_batch e.state ≡ true) w
           (running.after_advance e
           (advanced_when verdict e.state w log e.records e.newest e.versions e.results))
           ≡ store.refused
-      go Accepted refused = absurd refused
+      go (Ok tt) refused = absurd refused
       go (Refused refusal at) refused = refl
 
   seal_refused : reply_to (offered log e seal) ≡ store.refused
@@ -77,7 +76,7 @@ module _ (log : List ℕ) (e : Engine) (none_open : no_batch e.state ≡ true) w
       go : (verdict : Verdict) → IsRefused verdict
           → reply_to (running.after_seal e (sealed_by verdict e.state e.records e.newest e.versions))
           ≡ store.refused
-      go Accepted refused = absurd refused
+      go (Ok tt) refused = absurd refused
       go (Refused refusal at) refused = refl
 
   pub all_refused : (offer : store.Offer) → offer_to log e offer ≡ store.refused

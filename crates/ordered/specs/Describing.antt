@@ -1,8 +1,7 @@
 -- The batch of the order theorem that an opened engine has before it: what such a batch tells of the engine's state,
 -- its log and its stored records.
-use Rattle.std.specs.Prelude.{ℕ, ◌+◌, ◌*◌, ◌%◌, ◌≤◌, ◌<◌, false, ◌≡◌, List, length, get_or}
+use Rattle.std.specs.Prelude.{ℕ, ◌+◌, ◌*◌, ◌%◌, ◌≤◌, ◌<◌, false, ◌≡◌, List, length, get_or, Ok}
 use Rattle.terms.specs.Reserved.{no_end}
-use Rattle.terms.specs.declared.refusal.Verdict.TheVariants.{Accepted}
 use Rattle.packed.specs.Unpacking.{unpack_at_of}
 use Rattle.counters.specs.Deciding.{decide_of}
 use Rattle.counters.specs.Declarations.{Declared}
@@ -46,7 +45,7 @@ pub record Describes (B : order.Batch ℕ Outcome) (o : State) (log stored : Lis
   pub no_end_is : B.no_end ≡ no_end
   pub partition_is : (r : ℕ) → B.partition_of r ≡ r % o.partitions
   pub stored_is : (r : ℕ) → B.stored r ≡ get_or stored r 0
-  pub accepted : (i : ℕ) → i < o.size → (unpack_at_of o.records log i).verdict ≡ Accepted
+  pub accepted : (i : ℕ) → i < o.size → (unpack_at_of o.records log i).verdict ≡ Ok tt
   pub declared : (i : ℕ) → i < o.size → Declared o.records (meaning_at o log i)
   pub reads_count : (i : ℕ) → i < o.size → B.read_count i ≡ (meaning_at o log i).readcount
   pub reads_are : (i k : ℕ) → i < o.size → k < (meaning_at o log i).readcount

@@ -1,6 +1,6 @@
 -- A worker and its transaction, in a state that the engine reaches: they fit, so no check of an advance finds a
 -- fault.
-use Rattle.std.specs.Prelude.{ℕ, ◌≤◌, ◌<◌, ◌&&◌, ◌≡◌, refl, List}
+use Rattle.std.specs.Prelude.{ℕ, ◌≤◌, ◌<◌, ◌&&◌, ◌≡◌, refl, List, Ok}
 use Rattle.std.proofs.Math.Bool.{false}
 use Rattle.std.proofs.Math.Option.{some}
 use Rattle.std.proofs.Common.{sym, ◌∙◌, arith}
@@ -9,7 +9,6 @@ use Rattle.std.proofs.Math.Decide.{dec_lt}
 use Rattle.std.proofs.Math.Dec.{ltb}
 use Rattle.std.proofs.Math.ListN.{length}
 use borrow.Author.Tests.{le-ltb, lt-leb, eq-eqb}
-use Rattle.terms.specs.declared.refusal.Verdict.TheVariants.{Accepted as Passed}
 use Rattle.counters.specs.LawsDecision.{decided_shaped}
 use Rattle.counters.specs.Storing.{in_four}
 use Rattle.counters.specs.declared.Outcome.{Outcome}
@@ -129,13 +128,13 @@ module _ (B : order.Batch ℕ Outcome) (o : State) (log stored : List ℕ) (d : 
   pub advance_accepted : (w i : ℕ) → machine.PlanningOver B m.plan → w < o.workers → i < o.size
       → machine.held_by (m.execution.work w) ≡ some i
       → advance_verdict e.state w log (length e.records) (length e.newest) (length e.versions)
-      (length e.results) ≡ Passed
+      (length e.results) ≡ Ok tt
   unfolding advance_verdict
   advance_accepted w i over there below held =
       let holds_it =
       busy B o log stored d e m stands sound (worker_at e.state w) i (m.execution.work w) held
       (stands.crew_are w there) in
-      let fits : work_fits e.state (worker_at e.state w) log ≡ Passed =
+      let fits : work_fits e.state (worker_at e.state w) log ≡ Ok tt =
       rw (
         holds_it.1,
         verdict_same B o log stored d e m stands sound i below,

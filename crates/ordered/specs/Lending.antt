@@ -1,11 +1,9 @@
 -- The records are lent for advances and for the seal, not for the opening. Where there are not N of them, no seal is
 -- accepted.
-use Rattle.std.specs.Prelude.{ℕ, Bool, true, false, not, cond, ◌≡◌, refl, List, [], ◌∷◌, length}
+use Rattle.std.specs.Prelude.{ℕ, Bool, true, false, not, cond, ◌≡◌, refl, List, [], ◌∷◌, length, Ok, Err}
 use Rattle.std.proofs.Common.{◌∙◌, ne_eqb}
 use Rattle.terms.specs.declared.refusal.Refusal.TheVariants.{WrongMoment, NoSuchParty, WorkerBusyOrIdle}
 use Rattle.terms.specs.declared.refusal.Refusal.TheVariants.{NotUnprocessed, StateOutOfRange}
-use Rattle.terms.specs.declared.refusal.Verdict.{Verdict}
-use Rattle.terms.specs.declared.refusal.Verdict.TheVariants.{Accepted as Passed, Refused as Fails}
 use Rattle.versions.specs.declared.Version.{Version}
 use Rattle.engine.specs.Advance.{moved_state, answered_by, move_of, advance_verdict, advanced_when, advance_of}
 use Rattle.engine.specs.Answers.{accept, is_refused, refuse_if}
@@ -24,6 +22,7 @@ use Rattle.engine.specs.declared.State.{State}
 use Rattle.engine.specs.declared.Stepped.{Stepped}
 use Rattle.ordered.specs.Keeping.{refused_keeps}
 use Rattle.engine.specs.Running.{Engine, Offer, place, claim, advance, seal, offered, seal_accepted}
+use Rattle.terms.specs.Refusals.{Verdict}
 
 -- no call changes N
 place_count : (s : State) (p : ℕ) (log : List ℕ) (newest : List ℕ) (versions : List Version)
@@ -34,7 +33,7 @@ place_count s p log newest versions = go (place_verdict s p log newest (length v
     go : (verdict : Verdict)
         → (placed_when verdict s p log (record { newest = newest; versions = versions })).stepped.state.records
         ≡ s.records
-    go Passed = refl
+    go (Ok tt) = refl
     go (Fails refusal at) = refl
 
 claim_count : (s : State) (w i : ℕ) → (claim_of s w i).state.records ≡ s.records
@@ -76,8 +75,8 @@ advance_count s w log records newest versions results =
 
     go : (verdict : Verdict)
         → (advanced_when verdict s w log records newest versions results).stepped.state.records ≡ s.records
-    go (Fails refusal at) = refl
-    go Passed =
+    go (Err why) = refl
+    go (Ok tt) =
         let move = move_of s (worker_at s w) log records newest versions in
         answered move.answer (moved_state s w (worker_at s w).transaction move)
         (moved move.leaves (worker_at s w).transaction move.row)

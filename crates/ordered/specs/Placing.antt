@@ -1,7 +1,7 @@
 -- A place step, in a state that the engine reaches.
 use Prim.Native.Nat.{ℕ, suc, ◌+◌, ◌*◌, ◌%◌, ◌<◌}
 use Rattle.std.proofs.Math.Bool.{true, false}
-use Rattle.std.specs.Prelude.{◌&&◌, not, ◌≡◌, List, leb, length, set}
+use Rattle.std.specs.Prelude.{◌&&◌, not, ◌≡◌, List, leb, length, set, Ok}
 use Rattle.std.proofs.Math.Path.{refl, sym, ap}
 use Rattle.std.proofs.Common.{◌∙◌, arith}
 use Rattle.std.proofs.Math.Decide.{ℕ_discrete, dec_lt}
@@ -11,8 +11,6 @@ use Rattle.std.proofs.Math.ListN.{get_or, length-set}
 use Rattle.std.proofs.Math.Seq.{get_or-set_same, get_or-set_other}
 use borrow.Author.Tests.{lt-ltb, le-ltb, lt-leb, eq-eqb, ne_eqb, eqb-false, leb-false}
 use Rattle.terms.specs.Reserved.{no_slot}
-use Rattle.terms.specs.declared.refusal.Verdict.{Verdict}
-use Rattle.terms.specs.declared.refusal.Verdict.TheVariants.{Accepted, Refused}
 use Rattle.packed.specs.Unpacking.{unpack_at_of}
 use Rattle.packed.specs.declared.Transaction.{Transaction}
 use Rattle.counters.specs.declared.Outcome.{Outcome}
@@ -40,6 +38,7 @@ use Rattle.engine.specs.Running.{Engine, place, offered}
 use Rattle.engine.specs.Running as running
 use Rattle.ordered.specs.Stepping.{reply_to, offer_to, Makes}
 use Rattle.ordered.specs.Planning.{Planning, placed_all}
+use Rattle.terms.specs.Refusals.{Verdict}
 
 module _ (B : order.Batch ℕ Outcome) (o : State) (log stored : List ℕ) (d : Describes B o log stored)
     (e : Engine) (m : machine.State ℕ Outcome) (stands : Stands o stored e m) (sound : invariant.Sound B m) where
@@ -47,7 +46,7 @@ module _ (B : order.Batch ℕ Outcome) (o : State) (log stored : List ℕ) (d : 
   pub meaning_same : (i : ℕ) → meaning_at e.state log i ≡ meaning_at o log i
   meaning_same i = ap (λ n. (unpack_at_of n log i).meaning) stands.fixed.records_fixed
 
-  pub verdict_same : (i : ℕ) → i < o.size → (unpack_at_of e.state.records log i).verdict ≡ Accepted
+  pub verdict_same : (i : ℕ) → i < o.size → (unpack_at_of e.state.records log i).verdict ≡ Ok tt
   verdict_same i below =
       ap (λ n. (unpack_at_of n log i).verdict) stands.fixed.records_fixed ∙ d.accepted i below
 
@@ -117,7 +116,7 @@ module _ (B : order.Batch ℕ Outcome) (o : State) (log stored : List ℕ) (d : 
 
   -- so none of the checks of a place step finds a fault
   place_accepted : (p : ℕ) → p < o.partitions → m.plan.placed p < o.size
-      → place_verdict e.state p log e.newest (length e.versions) ≡ Accepted
+      → place_verdict e.state p log e.newest (length e.versions) ≡ Ok tt
   unfolding place_verdict
   place_accepted p there before =
       let i = placed_by e.state p in
@@ -141,7 +140,7 @@ module _ (B : order.Batch ℕ Outcome) (o : State) (log stored : List ℕ) (d : 
   -- the engine after it
   placing : ℕ → Engine
   placing p =
-      (running.after_place e (placed_when Accepted e.state p log (record {
+      (running.after_place e (placed_when (Ok tt) e.state p log (record {
         newest = e.newest;
         versions = e.versions;
       }))
@@ -237,7 +236,7 @@ module _ (B : order.Batch ℕ Outcome) (o : State) (log stored : List ℕ) (d : 
       }
 
   -- and what the engine places, the machine can
-  place_passed : (p : ℕ) → place_verdict e.state p log e.newest (length e.versions) ≡ Accepted
+  place_passed : (p : ℕ) → place_verdict e.state p log e.newest (length e.versions) ≡ Ok tt
       → (p < o.partitions) × (m.plan.placed p < o.size)
   unfolding place_verdict
   place_passed p passed =
@@ -266,5 +265,5 @@ module _ (B : order.Batch ℕ Outcome) (o : State) (log stored : List ℕ) (d : 
           (placed_when verdict e.state p log (record { newest = e.newest; versions = e.versions })))
           ≡ store.accepted answer next
           → (p < o.partitions) × (m.plan.placed p < o.size)
-      go Accepted is reply = place_passed p is
+      go (Ok tt) is reply = place_passed p is
       go (Refused refusal where_at) is reply = absurd (clash (cc))

@@ -1,14 +1,12 @@
 -- The seal, in a state that the engine reaches; and that nothing is accepted after it.
 use Prim.Native.Nat.{ℕ, zero, suc, ◌*◌, ◌<◌}
-use Rattle.std.specs.Prelude.{Bool, false, ◌||◌, ◌≡◌, List, ltb, eqb, length}
+use Rattle.std.specs.Prelude.{Bool, false, ◌||◌, ◌≡◌, List, ltb, eqb, length, Ok}
 use Rattle.std.proofs.Math.Bool.{true}
 use Rattle.std.proofs.Math.Path.{refl}
 use Rattle.std.proofs.Common.{sym, ap, ◌∙◌, arith}
 use Rattle.std.proofs.Math.Decide.{dec_lt}
 use borrow.Author.Tests.{lt-ltb, le-ltb, eq-eqb, not-false}
 use Rattle.terms.specs.Reserved.{no_slot}
-use Rattle.terms.specs.declared.refusal.Verdict.{Verdict}
-use Rattle.terms.specs.declared.refusal.Verdict.TheVariants.{Accepted, Refused}
 use Rattle.packed.specs.LawsForm.{not_right}
 use Rattle.packed.specs.LawsRecords.{not_both}
 use Rattle.versions.specs.Seal.{slot_sound, sound_below, newest_sound_of}
@@ -42,11 +40,12 @@ use Rattle.ordered.specs.Relation.{SlotIs, ContentsIs, RowIs, Stands}
 use Rattle.engine.specs.Running.{Engine, seal, offered}
 use Rattle.engine.specs.Running as running
 use Rattle.ordered.specs.Stepping.{reply_to, offer_to}
+use Rattle.terms.specs.Refusals.{Verdict}
 
 -- the engine after an accepted seal
 abbrev pub sealed_engine : Engine → Engine
 sealed_engine e =
-    (running.after_seal e (sealed_by Accepted e.state e.records e.newest e.versions)).engine
+    (running.after_seal e (sealed_by (Ok tt) e.state e.records e.newest e.versions)).engine
 
 -- every newest slot is sound
 all_sound : (versions : List Version) (newest : List ℕ) (limit count : ℕ)
@@ -180,7 +179,7 @@ module _ (B : order.Batch ℕ Outcome) (o : State) (log stored : List ℕ) (d : 
       seal_verdict e.state (length e.records) (length e.newest) (length e.versions)
       (newest_sound_of e.versions e.newest (4 * e.state.size))
 
-  seal_passed : verdict ≡ Accepted → machine.AllComplete B m
+  seal_passed : verdict ≡ Ok tt → machine.AllComplete B m
   unfolding seal_verdict
   seal_passed passed =
       let tables =
@@ -198,5 +197,5 @@ module _ (B : order.Batch ℕ Outcome) (o : State) (log stored : List ℕ) (d : 
           → reply_to (running.after_seal e (sealed_by x e.state e.records e.newest e.versions))
           ≡ store.accepted answer next
           → machine.AllComplete B m × (next ≡ sealed_engine e)
-      go Accepted is reply = (seal_passed is, (cc))
+      go (Ok tt) is reply = (seal_passed is, (cc))
       go (Refused refusal at) is reply = absurd (clash (cc))

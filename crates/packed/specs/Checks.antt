@@ -1,6 +1,6 @@
 -- The checks of one entry, in the paper's order: 1, 2, 4 to 8. Each is looked for in the whole entry before the next.
-use Rattle.std.specs.Prelude.{ℕ, Bool, ◌||◌, List, ltb}
-use Rattle.terms.specs.Refusals.{refuse_if}
+use Rattle.std.specs.Prelude.{ℕ, Bool, ◌||◌, List, ltb, Ok}
+use Rattle.terms.specs.Refusals.{refuse_if, Verdict}
 use Rattle.terms.specs.declared.refusal.Refusal.TheVariants.{
   WrongParameter,
   WrongLength,
@@ -10,8 +10,6 @@ use Rattle.terms.specs.declared.refusal.Refusal.TheVariants.{
   UndeclaredRead,
   UndeclaredWrite,
 }
-use Rattle.terms.specs.declared.refusal.Verdict.{Verdict}
-use Rattle.terms.specs.declared.refusal.Verdict.TheVariants.{Accepted}
 use Rattle.packed.specs.Form.{malformed}
 use Rattle.packed.specs.Records.{no_such_record, not_ascending, undeclared_read, undeclared_write}
 
@@ -27,7 +25,7 @@ entry_verdict n transaction b =
     -- 7
     (refuse_if (undeclared_read b) UndeclaredRead transaction
     -- 8
-    (refuse_if (undeclared_write b) UndeclaredWrite transaction Accepted))))
+    (refuse_if (undeclared_write b) UndeclaredWrite transaction (Ok tt)))))
 
 -- "N from 1 to 1,024": it is not
 abbrev pub wrong_record_count : ℕ → Bool

@@ -1,6 +1,6 @@
 -- The verdict of an entry in the code's order: 4, then 5 and 6 in the sets, then what is undeclared, and 5 in the
 -- actions only where something is.
-use Rattle.std.specs.Prelude.{ℕ, Bool, true, ◌||◌, not, ◌≡◌, refl, List}
+use Rattle.std.specs.Prelude.{ℕ, Bool, true, ◌||◌, not, ◌≡◌, refl, List, Ok}
 use Rattle.std.proofs.Math.Bool.{false}
 use Rattle.std.proofs.Common.{◌∙◌}
 use Rattle.std.proofs.lemmas.Bool.{not-true}
@@ -11,7 +11,6 @@ use Rattle.terms.specs.declared.refusal.Refusal.TheVariants.{
   UndeclaredRead,
   UndeclaredWrite,
 }
-use Rattle.terms.specs.declared.refusal.Verdict.TheVariants.{Accepted}
 use Rattle.packed.specs.Checks.{entry_verdict}
 use Rattle.packed.specs.Form.{malformed}
 use Rattle.packed.specs.LawsForm.{not_left, not_right}
@@ -41,7 +40,7 @@ module _ (n transaction : ℕ) (b : List ℕ) (formed : malformed b ≡ false) w
   not_ascending_lem improper exist = rw (formed, exist, descends_somewhere n b improper exist)
 
   module _ (proper : sets_proper n b ≡ true) where
-    pub accepted : undeclared_read b ≡ false → undeclared_write b ≡ false → Accepted ≡ entry_verdict n transaction b
+    pub accepted : undeclared_read b ≡ false → undeclared_write b ≡ false → Ok tt ≡ entry_verdict n transaction b
     unfolding entry_verdict
     accepted read written =
         let sets = in_sets n b proper in

@@ -1,10 +1,8 @@
 -- What an accepting verdict says.
-use Rattle.std.specs.Prelude.{ℕ, Bool, true, false, ◌≡◌, refl, List}
+use Rattle.std.specs.Prelude.{ℕ, Bool, true, false, ◌≡◌, refl, List, Ok, Err}
 use Rattle.std.proofs.Common.{arith}
-use Rattle.terms.specs.Refusals.{refuse_if}
+use Rattle.terms.specs.Refusals.{refuse_if, Verdict}
 use Rattle.terms.specs.declared.refusal.Refusal.{Refusal}
-use Rattle.terms.specs.declared.refusal.Verdict.{Verdict}
-use Rattle.terms.specs.declared.refusal.Verdict.TheVariants.{Accepted, Refused}
 use Rattle.packed.specs.Checks.{entry_verdict, wrong_record_count, verdict_of}
 use Rattle.packed.specs.Form.{malformed}
 use Rattle.packed.specs.Packing.{written}
@@ -21,20 +19,20 @@ pub record Proper (n : ℕ) (b : List ℕ) : Type 0 where
   pub writes_declared : undeclared_write b ≡ false
 
 no_fault : (fault : Bool) (refusal : Refusal) (transaction : ℕ) (rest : Verdict)
-    → refuse_if fault refusal transaction rest ≡ Accepted → fault ≡ false
+    → refuse_if fault refusal transaction rest ≡ Ok tt → fault ≡ false
 no_fault true refusal transaction rest accepted =
     let never : ◌≡◌ {A = ℕ} 0 1 = cc in
     absurd (omega arith)
 no_fault false refusal transaction rest accepted = refl
 
 rest_accepts : (fault : Bool) (refusal : Refusal) (transaction : ℕ) (rest : Verdict)
-    → refuse_if fault refusal transaction rest ≡ Accepted → rest ≡ Accepted
+    → refuse_if fault refusal transaction rest ≡ Ok tt → rest ≡ Ok tt
 rest_accepts true refusal transaction rest accepted =
     let never : ◌≡◌ {A = ℕ} 0 1 = cc in
     absurd (omega arith)
 rest_accepts false refusal transaction rest accepted = accepted
 
-pub proper : (n transaction : ℕ) (b : List ℕ) → entry_verdict n transaction b ≡ Accepted → Proper n b
+pub proper : (n transaction : ℕ) (b : List ℕ) → entry_verdict n transaction b ≡ Ok tt → Proper n b
 unfolding entry_verdict
 proper n transaction b accepted =
     let after_form = rest_accepts (malformed b) _ transaction _ accepted in
@@ -56,7 +54,7 @@ pub record Sound (n : ℕ) (wrong_length : Bool) (b : List ℕ) : Type 0 where
   pub entry_proper : Proper n b
 
 pub sound : (n transaction : ℕ) (wrong_length : Bool) (b : List ℕ)
-    → verdict_of n transaction wrong_length b ≡ Accepted → Sound n wrong_length b
+    → verdict_of n transaction wrong_length b ≡ Ok tt → Sound n wrong_length b
 unfolding verdict_of
 sound n transaction wrong_length b accepted =
     let after_count = rest_accepts (wrong_record_count n) _ transaction _ accepted in
@@ -69,9 +67,9 @@ sound n transaction wrong_length b accepted =
 
 -- the verdict of unpacking and of packing is that of their checks
 pub unpacked_verdict : (verdict : Verdict) (meaning : Transaction) → (unpacked verdict meaning).verdict ≡ verdict
-unpacked_verdict Accepted meaning = refl
-unpacked_verdict (Refused refusal place) meaning = refl
+unpacked_verdict (Ok _) meaning = refl
+unpacked_verdict (Err why) meaning = refl
 
 pub written_verdict : (verdict : Verdict) (bytes buffer : List ℕ) → (written verdict bytes buffer).verdict ≡ verdict
-written_verdict Accepted bytes buffer = refl
-written_verdict (Refused refusal place) bytes buffer = refl
+written_verdict (Ok _) bytes buffer = refl
+written_verdict (Err why) bytes buffer = refl

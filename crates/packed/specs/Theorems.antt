@@ -2,10 +2,9 @@
 -- that the functions `unpack` and `pack` are proved to equal. `Bytes` says that a list holds bytes, and `Held` that a
 -- meaning is one that code can hold: of what code lends and passes both are true. None is vacuous: `zeros_are_proper`
 -- accepts an entry.
-use Rattle.std.specs.Prelude.{ℕ, false, not, ◌≡◌, refl, List, length, replicate, eqb}
+use Rattle.std.specs.Prelude.{ℕ, false, not, ◌≡◌, refl, List, length, replicate, eqb, Ok}
 use Rattle.std.proofs.Common.{sym, ap, ◌∙◌, eqb-true}
 use Rattle.std.proofs.lemmas.Bool.{not-false}
-use Rattle.terms.specs.declared.refusal.Verdict.TheVariants.{Accepted}
 use Rattle.little.specs.Little.{number_in}
 use Rattle.little.specs.Laws.{Bytes}
 use Rattle.packed.specs.Checks.{entry_verdict, wrong_record_count, verdict_of}
@@ -24,11 +23,11 @@ use Rattle.packed.specs.declared.Transaction.{Transaction}
 
 -- what unpacks packs to the same bytes
 pub unpacked_packs : (n : ℕ) (b buffer : List ℕ) → Bytes b → length buffer ≡ 88
-    → (unpack_of n b).verdict ≡ Accepted
-    → pack_of n (unpack_of n b).meaning buffer ≡ packed Accepted b
+    → (unpack_of n b).verdict ≡ Ok tt
+    → pack_of n (unpack_of n b).meaning buffer ≡ packed (Ok tt) b
 unfolding unpack_of pack_of
 unpacked_packs n b buffer small long accepted =
-    let checked : verdict_of n 0 (not (eqb (length b) 88)) b ≡ Accepted =
+    let checked : verdict_of n 0 (not (eqb (length b) 88)) b ≡ Ok tt =
     sym (unpacked_verdict _ (decode b)) ∙ accepted in
     let is : Sound n (not (eqb (length b) 88)) b = sound n 0 _ b checked in
     let whole : length b ≡ 88 = eqb-true (length b) 88 (not-false _ is.length_right) in
@@ -38,21 +37,21 @@ unpacked_packs n b buffer small long accepted =
 
 -- what packs unpacks to the same meaning
 pub packed_unpacks : (n : ℕ) (t : Transaction) (buffer : List ℕ) → Held t
-    → (pack_of n t buffer).verdict ≡ Accepted
-    → unpack_of n (pack_of n t buffer).buffer ≡ unpacked Accepted t
+    → (pack_of n t buffer).verdict ≡ Ok tt
+    → unpack_of n (pack_of n t buffer).buffer ≡ unpacked (Ok tt) t
 unfolding unpack_of pack_of
 packed_unpacks n t buffer held accepted =
-    let checked : verdict_of n 0 (not (eqb (length buffer) 88)) (encode t) ≡ Accepted =
+    let checked : verdict_of n 0 (not (eqb (length buffer) 88)) (encode t) ≡ Ok tt =
     sym (written_verdict _ (encode t) buffer) ∙ accepted in
     let is : Sound n (not (eqb (length buffer) 88)) (encode t) = sound n 0 _ (encode t) checked in
     let whole : length buffer ≡ length (encode t) =
     eqb-true (length buffer) 88 (not-false _ is.length_right) ∙ sym (length_encode t) in
-    let again : verdict_of n 0 (not (eqb (length (encode t)) 88)) (encode t) ≡ Accepted = rw (← whole) checked in
+    let again : verdict_of n 0 (not (eqb (length (encode t)) 88)) (encode t) ≡ Ok tt = rw (← whole) checked in
     rw (checked, again, decode_encode t held)
 
 -- a packed transaction has one meaning: two that pack to the same bytes are the same
 pub one_meaning : (n : ℕ) (t u : Transaction) (buffer other : List ℕ) → Held t → Held u
-    → (pack_of n t buffer).verdict ≡ Accepted → (pack_of n u other).verdict ≡ Accepted
+    → (pack_of n t buffer).verdict ≡ Ok tt → (pack_of n u other).verdict ≡ Ok tt
     → (pack_of n t buffer).buffer ≡ (pack_of n u other).buffer
     → t ≡ u
 one_meaning n t u buffer other t_held u_held t_packs u_packs same =
@@ -60,7 +59,7 @@ one_meaning n t u buffer other t_held u_held t_packs u_packs same =
     (sym (packed_unpacks n t buffer t_held t_packs) ∙ ap (unpack_of n) same ∙ packed_unpacks n u other u_held u_packs)
 
 -- "88 zero bytes are a proper transaction that does nothing", in a store of any size
-pub zeros_are_proper : (n : ℕ) → wrong_record_count n ≡ false → unpack_of n (replicate 88 0) ≡ unpacked Accepted nothing
+pub zeros_are_proper : (n : ℕ) → wrong_record_count n ≡ false → unpack_of n (replicate 88 0) ≡ unpacked (Ok tt) nothing
 unfolding
     unpack_of verdict_of entry_verdict malformed nonzero action_nonzero no_such_record not_ascending undeclared_read
     undeclared_write some_of uses_of decode action_of nothing number_in

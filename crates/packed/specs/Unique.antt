@@ -2,12 +2,12 @@
 use Rattle.std.specs.Prelude.{ℕ, List, ◌≡◌}
 use Rattle.std.proofs.Common.{ap}
 use Rattle.terms.specs.Unique.{same}
-use Rattle.terms.specs.declared.refusal.Verdict.{Verdict}
 use Rattle.packed.specs.Decode.{nothing}
 use Rattle.packed.specs.Packing.{packed, pack_of}
 use Rattle.packed.specs.Unpacking.{unpack_of, unpack_at_of}
 use Rattle.packed.specs.declared.Transaction.{Transaction}
 use Rattle.packed.specs.declared.Unpacked.{Unpacked}
+use Rattle.terms.specs.Refusals.{Verdict}
 
 pub unpack_unique : (n : ℕ) (bytes : List ℕ) (a b : Unpacked) → a ≡ unpack_of n bytes → b ≡ unpack_of n bytes → a ≡ b
 unpack_unique n bytes a b = same

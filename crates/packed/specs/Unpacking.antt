@@ -1,16 +1,15 @@
 -- What unpacking answers, for every input: "Unpacking one entry is given N and checks 1, 2 (length not 88), 4 to 8".
-use Rattle.std.specs.Prelude.{ℕ, ◌*◌, ◌/◌, not, List, length, take, drop, leb, eqb}
-use Rattle.terms.specs.declared.refusal.Verdict.{Verdict}
-use Rattle.terms.specs.declared.refusal.Verdict.TheVariants.{Accepted, Refused}
+use Rattle.std.specs.Prelude.{ℕ, ◌*◌, ◌/◌, not, List, length, take, drop, leb, eqb, Ok, Err}
 use Rattle.packed.specs.Checks.{verdict_of}
 use Rattle.packed.specs.Decode.{decode, nothing}
 use Rattle.packed.specs.declared.Transaction.{Transaction}
 use Rattle.packed.specs.declared.Unpacked.{Unpacked}
+use Rattle.terms.specs.Refusals.{Verdict}
 
 -- "A refused .. unpacking hands back the all-zero .. meaning"
 abbrev pub unpacked : Verdict → Transaction → Unpacked
-unpacked Accepted meaning = record { verdict = Accepted; meaning = meaning }
-unpacked (Refused refusal place) meaning = record { verdict = Refused refusal place; meaning = nothing }
+unpacked (Ok _) meaning = record { verdict = Ok tt; meaning = meaning }
+unpacked (Err why) meaning = record { verdict = Err why; meaning = nothing }
 
 unfoldable pub unpack_of : ℕ → List ℕ → Unpacked
 unpack_of n b = unpacked (verdict_of n 0 (not (eqb (length b) 88)) b) (decode b)

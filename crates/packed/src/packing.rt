@@ -10,18 +10,18 @@ pub fn pack(meaning: Transaction, n: usize, buffer: &mut [u8]) -> Verdict
     ensures { packed result buffer.new ≡ pack_of n meaning buffer.old }
 {
     if unpacking::is_wrong_record_count(n) {
-        return Verdict::refuse(Refusal::WrongParameter, 0);
+        return Err(Refusal::WrongParameter.at(0));
     }
     if buffer.len() != 88 {
-        return Verdict::refuse(Refusal::WrongLength, 0);
+        return Err(Refusal::WrongLength.at(0));
     }
     let b = encode::encoded(meaning);
     let verdict = unpacking::entry_verdict(&b, n, 0);
     match verdict {
-        Verdict::Accepted => {
+        Ok(()) => {
             buffer.copy_from_slice(&b);
             verdict
         }
-        Verdict::Refused(_, _) => verdict,
+        Err(_) => verdict,
     }
 }

@@ -15,25 +15,25 @@ pub(crate) fn entry_verdict(b: &[u8], n: usize, index: usize) -> Verdict
     ensures { result ≡ entry_verdict n index b.now }
 {
     if form::is_malformed(b) {
-        return Verdict::refuse(Refusal::Malformed, index);
+        return Err(Refusal::Malformed.at(index));
     }
     if !records::sets_proper(b, n) {
         if records::has_no_such_record(b, n) {
-            return Verdict::refuse(Refusal::NoSuchRecord, index);
+            return Err(Refusal::NoSuchRecord.at(index));
         }
-        return Verdict::refuse(Refusal::NotAscending, index);
+        return Err(Refusal::NotAscending.at(index));
     }
     let undeclared = records::undeclared_by(b);
     if !(undeclared.read | undeclared.write) {
-        return Verdict::Accepted;
+        return Ok(());
     }
     if records::action_too_large(b, n) {
-        return Verdict::refuse(Refusal::NoSuchRecord, index);
+        return Err(Refusal::NoSuchRecord.at(index));
     }
     if undeclared.read {
-        return Verdict::refuse(Refusal::UndeclaredRead, index);
+        return Err(Refusal::UndeclaredRead.at(index));
     }
-    Verdict::refuse(Refusal::UndeclaredWrite, index)
+    Err(Refusal::UndeclaredWrite.at(index))
 }
 
 // The answer for one whole entry.
@@ -43,11 +43,11 @@ fn entry(b: &[u8], n: usize, index: usize) -> Unpacked
 {
     let verdict = entry_verdict(b, n, index);
     match verdict {
-        Verdict::Accepted => {
+        Ok(()) => {
             let meaning = decode::decoded(b);
             Unpacked { verdict, meaning }
         }
-        Verdict::Refused(_, _) => {
+        Err(_) => {
             let meaning = decode::no_meaning();
             Unpacked { verdict, meaning }
         }
@@ -58,7 +58,7 @@ fn entry(b: &[u8], n: usize, index: usize) -> Unpacked
 fn refused_early(refusal: Refusal, index: usize) -> Unpacked
     ensures { result ≡ unpacked (refused refusal index) nothing }
 {
-    let verdict = Verdict::refuse(refusal, index);
+    let verdict = Err(refusal.at(index));
     let meaning = decode::no_meaning();
     Unpacked { verdict, meaning }
 }

@@ -2,16 +2,16 @@
 use case_files::{print_number, print_text};
 use packed::{Action, ActionRow, Unpacked};
 use std::io;
-use terms::Verdict;
+use terms::{Verdict, verdict_number, verdict_place};
 
 // The answer, the paper's number and the place.
 pub(crate) fn verdict(rt: &impl Print, v: Verdict) -> io::Result<()> {
     match v {
-        Verdict::Accepted => print_text(rt, b"accepted")?,
-        Verdict::Refused(_, _) => print_text(rt, b"refused")?,
+        Ok(()) => print_text(rt, b"accepted")?,
+        Err(_) => print_text(rt, b"refused")?,
     }
-    print_number(rt, v.number() as u64)?;
-    print_number(rt, v.place() as u64)
+    print_number(rt, verdict_number(v) as u64)?;
+    print_number(rt, verdict_place(v) as u64)
 }
 
 fn set(rt: &impl Print, records: [u16; 4]) -> io::Result<()> {

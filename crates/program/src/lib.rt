@@ -14,7 +14,6 @@ pub use files::{close, load, whole};
 use std::io;
 use std::io::{Read, Seek};
 use std::rt::Files;
-use terms::Verdict;
 
 // Bytes of an open file: so many from `start` on. There is no file where it could not be opened. Parts of one file
 // share
@@ -134,8 +133,8 @@ pub fn run<R: Print, F: Read + Seek>(
     let made = make_for(stored.length, setup.partitions, setup.workers);
     let verdict = made.verdict;
     match verdict {
-        Verdict::Accepted => with_state(rt, made.state, setup.quiet, stored, log, steps),
-        Verdict::Refused(refusal, _) => print::refused(rt, refusal),
+        Ok(()) => with_state(rt, made.state, setup.quiet, stored, log, steps),
+        Err(why) => print::refused(rt, why.refusal),
     }
 }
 

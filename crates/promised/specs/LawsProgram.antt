@@ -1,14 +1,12 @@
 -- The program's run and the library's are one: the same store made, the same batch opened with tables that hold the
 -- same, and the same steps offered.
-use Rattle.std.specs.Prelude.{ℕ, zero, suc, ◌≤◌, Bool, true, false, ◌||◌, cond}
+use Rattle.std.specs.Prelude.{ℕ, zero, suc, ◌≤◌, Bool, true, false, ◌||◌, cond, Ok}
 use Rattle.std.specs.Prelude.{List, [], ◌∷◌, ◌≡◌, ltb, eqb, length, take, replicate}
 use Rattle.std.proofs.Math.Path.{refl, sym, ap}
 use Rattle.std.proofs.Common.{◌∙◌, arith, ltb-false, ne_eqb, length-append}
 use Rattle.std.proofs.lemmas.List.{length-replicate}
-use Rattle.terms.specs.Refusals.{number_of}
+use Rattle.terms.specs.Refusals.{number_of, Verdict}
 use Rattle.terms.specs.Reserved.{no_slot}
-use Rattle.terms.specs.declared.refusal.Verdict.{Verdict}
-use Rattle.terms.specs.declared.refusal.Verdict.TheVariants.{Accepted as Passed, Refused as Fails}
 use Rattle.packed.specs.LawsForm.{not_left, not_right}
 use Rattle.versions.specs.Entry.{empty_entry}
 use Rattle.versions.specs.declared.Version.{Version}
@@ -93,7 +91,7 @@ module _ (s : State) (n : ℕ) (as_made : s.records ≡ n) (eight : length s.pla
   start = record { state = s; records = records; newest = newest; versions = versions; results = results }
 
   -- where the opening is accepted: the session, and the number of records that it has at a seal
-  module _ (passes : verdict ≡ Passed) where
+  module _ (passes : verdict ≡ Ok tt) where
     abbrev first : Session
     first =
         session_of (begun (opened s (entries_in log))) records (none_newest newest) (all_empty versions)
@@ -103,7 +101,7 @@ module _ (s : State) (n : ℕ) (as_made : s.records ≡ n) (eight : length s.pla
     last = run_of steps (length steps) log first
 
     accepted : opening log start ≡ record {
-      answer = (opened_by Passed s log newest versions results).stepped.answer;
+      answer = (opened_by (Ok tt) s log newest versions results).stepped.answer;
       engine = engine_of first;
     }
     unfolding opening open_of
@@ -131,7 +129,7 @@ module _ (s : State) (n : ℕ) (as_made : s.records ≡ n) (eight : length s.pla
       program.after_opening o.stepped.answer o records log steps
 
   by_verdict : (v : Verdict) → verdict ≡ v → output v ≡ text_of n log (handed v)
-  by_verdict Passed is =
+  by_verdict (Ok tt) is =
       ap (λ (k : ℕ).
       printed log (run_of steps (length steps) log
       (session_of (begun (opened s (entries_in log))) records (none_newest newest) (all_empty versions)

@@ -1,8 +1,8 @@
 -- The line of a refusal tells its number, and no other text of a run begins as it does.
-use Rattle.std.specs.Prelude.{ℕ, zero, suc, ◌+◌, ◌-◌, ◌*◌, Bool, true, false}
+use Rattle.std.specs.Prelude.{ℕ, zero, suc, ◌+◌, ◌-◌, ◌*◌, Bool, true, false, Ok, Err}
 use Rattle.std.specs.Prelude.{cond, List, ◌++◌, ◌≡◌, refl, eqb, length, get_or, replicate}
 use Rattle.std.proofs.Common.{append_assoc, sym, ap, ◌∙◌, arith, eq-eqb, ne_eqb}
-use Rattle.terms.specs.Refusals.{verdict_number, number_of}
+use Rattle.terms.specs.Refusals.{verdict_number, number_of, Verdict}
 use Rattle.terms.specs.declared.refusal.Refusal.{Refusal}
 use Rattle.terms.specs.declared.refusal.Refusal.TheVariants.{
   WrongParameter,
@@ -21,8 +21,6 @@ use Rattle.terms.specs.declared.refusal.Refusal.TheVariants.{
   StateOutOfRange,
   BrokenTables,
 }
-use Rattle.terms.specs.declared.refusal.Verdict.{Verdict}
-use Rattle.terms.specs.declared.refusal.Verdict.TheVariants.{Accepted as Passed, Refused as Fails}
 use Rattle.versions.specs.Entry.{empty_entry}
 use Rattle.counters.specs.declared.Outcome.{Outcome}
 use Rattle.engine.specs.Answers.{answer_number}
@@ -44,8 +42,8 @@ pub data Numbered (number : ℕ) : Type 0 where
   of_one : (refusal : Refusal) → number ≡ number_of refusal → Numbered number
 
 verdict_numbered : (verdict : Verdict) → Numbered (verdict_number verdict)
-verdict_numbered Passed = of_none refl
-verdict_numbered (Fails refusal place) = of_one refusal refl
+verdict_numbered (Ok _) = of_none refl
+verdict_numbered (Err why) = of_one why.refusal refl
 
 answer_numbered : (answer : Answer) → Numbered (answer_number answer)
 answer_numbered Accepted = of_none refl

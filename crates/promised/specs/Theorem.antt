@@ -4,14 +4,12 @@
 --
 -- The hypotheses are what the call hands back: its number is 0, and its fourth count is 1. Nothing is asked of the
 -- arguments.
-use Rattle.std.specs.Prelude.{ℕ, ◌≤◌, Bool, true, false, ◌||◌, cond, List}
+use Rattle.std.specs.Prelude.{ℕ, ◌≤◌, Bool, true, false, ◌||◌, cond, List, Ok}
 use Rattle.std.specs.Prelude.{map, ◌≡◌, refl, eqb, length, get_or, take, replicate}
 use Rattle.std.proofs.Common.{sym, ap, ◌∙◌, arith, eq-eqb, eqb-true}
 use Rattle.std.proofs.Math.Path.{subst}
 use Rattle.std.proofs.lemmas.Bool.{eqb-false, not-false}
-use Rattle.terms.specs.Refusals.{verdict_number}
-use Rattle.terms.specs.declared.refusal.Verdict.{Verdict}
-use Rattle.terms.specs.declared.refusal.Verdict.TheVariants.{Accepted as Passed, Refused as Fails}
+use Rattle.terms.specs.Refusals.{verdict_number, Verdict}
 use Rattle.versions.specs.Entry.{empty_entry}
 use Rattle.versions.specs.declared.Version.{Version}
 use Rattle.engine.specs.Answers.{answer_number}
@@ -87,7 +85,7 @@ few_entries s log newest results versions = go (open_verdict s log (length newes
   where
     go : (verdict : Verdict) → open_verdict s log (length newest) (length versions) (length results) ≡ verdict
         → answer_number (opened_by verdict s log newest versions results).stepped.answer ≡ 0 → entries_in log ≤ 64
-    go Passed is none = (opens s log (length newest) (length versions) (length results) is).few_entries
+    go (Ok tt) is none = (opens s log (length newest) (length versions) (length results) is).few_entries
     go (Fails refusal place) is none = absurd (omega (arith, none, positive refusal))
 
 -- the lengths that a run asks for

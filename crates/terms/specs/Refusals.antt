@@ -1,5 +1,5 @@
 -- The refusals of document 01: the number that the table gives to each, and the place that goes with it.
-use Rattle.std.specs.Prelude.{ℕ, Bool, true, false, ◌&&◌, cond, leb}
+use Rattle.std.specs.Prelude.{ℕ, Bool, true, false, ◌&&◌, cond, leb, Result, Ok, Err, ⊤}
 use Rattle.terms.specs.declared.refusal.Refusal.{Refusal}
 use Rattle.terms.specs.declared.refusal.Refusal.TheVariants.{
   WrongParameter,
@@ -19,8 +19,7 @@ use Rattle.terms.specs.declared.refusal.Refusal.TheVariants.{
   BrokenTables,
 }
 use Rattle.terms.specs.declared.refusal.Place.{Place}
-use Rattle.terms.specs.declared.refusal.Verdict.{Verdict}
-use Rattle.terms.specs.declared.refusal.Verdict.TheVariants.{Accepted, Refused}
+use Rattle.terms.specs.declared.refusal.Refused.{Refused}
 
 -- no.
 abbrev pub number_of : Refusal → ℕ
@@ -60,18 +59,25 @@ abbrev pub place_of : Refusal → ℕ → Place
 place_of refusal transaction =
     record { transaction = cond (leb 4 (number_of refusal) && leb (number_of refusal) 8) transaction 0 }
 
+-- what a call that can only accept or refuse answers
+abbrev pub Verdict : Type 0
+Verdict = Result ⊤ Refused
+
 -- what the paper has for a verdict: a number and a place, both 0 where nothing is refused
 abbrev pub verdict_number : Verdict → ℕ
-verdict_number Accepted = 0
-verdict_number (Refused refusal place) = number_of refusal
+verdict_number (Ok _) = 0
+verdict_number (Err why) = number_of why.refusal
 
 abbrev pub verdict_place : Verdict → ℕ
-verdict_place Accepted = 0
-verdict_place (Refused refusal place) = place.transaction
+verdict_place (Ok _) = 0
+verdict_place (Err why) = why.place.transaction
 
 -- a refusal of the transaction at this index
+abbrev pub refused_at : Refusal → ℕ → Refused
+refused_at refusal transaction = record { refusal = refusal; place = place_of refusal transaction }
+
 abbrev pub refused : Refusal → ℕ → Verdict
-refused refusal transaction = Refused refusal (place_of refusal transaction)
+refused refusal transaction = Err (refused_at refusal transaction)
 
 -- a check of a chain: the transaction is refused where the fault is there, and the rest decides where it is not
 abbrev pub refuse_if : Bool → Refusal → ℕ → Verdict → Verdict

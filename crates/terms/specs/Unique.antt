@@ -1,11 +1,10 @@
 -- Each contract determines its function's result: two results that satisfy it are equal.
 use Rattle.std.specs.Prelude.{ℕ, Bool, ◌≡◌, eqb}
 use Rattle.std.proofs.Common.{sym, ◌∙◌}
-use Rattle.terms.specs.Refusals.{number_of, place_of, refused, verdict_number, verdict_place}
+use Rattle.terms.specs.Refusals.{number_of, place_of, Verdict, refused, verdict_number, verdict_place}
 use Rattle.terms.specs.Reserved.{no_slot, no_end}
 use Rattle.terms.specs.declared.refusal.Place.{Place}
 use Rattle.terms.specs.declared.refusal.Refusal.{Refusal}
-use Rattle.terms.specs.declared.refusal.Verdict.{Verdict}
 
 -- what equals the same is equal
 pub same : {A : Type 0} {x a b : A} → a ≡ x → b ≡ x → a ≡ b

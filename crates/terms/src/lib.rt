@@ -6,5 +6,5 @@ mod refusal;
 mod reserved;
 
 pub use position::{BatchNumber, Position};
-pub use refusal::{Place, Refusal, Verdict};
+pub use refusal::{Place, Refusal, Refused, Verdict, refuse_if, verdict_number, verdict_place};
 pub use reserved::{NO_END, NO_SLOT, is_no_end, is_no_slot};

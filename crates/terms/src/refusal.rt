@@ -1,9 +1,9 @@
 // The refusals of document 01, the number that the paper gives to each, and the place that goes with it.
 ghost use Rattle.std.specs.Prelude.{◌≡◌};
-ghost use Rattle.terms.specs.Refusals.{number_of, place_of, refused, verdict_number, verdict_place};
+ghost use Rattle.terms.specs.Refusals.{number_of, place_of, refused_at, refuse_if, verdict_number, verdict_place};
 
 // A case for each line of the table, in its order.
-#[derive(Clone, Copy)]
+#[derive(Clone, Copy, Debug, PartialEq, Eq)]
 pub enum Refusal {
     WrongParameter,
     WrongLength,
@@ -23,17 +23,20 @@ pub enum Refusal {
 }
 
 // Where a refusal lies: the index of a transaction in its batch.
-#[derive(Clone, Copy)]
+#[derive(Clone, Copy, Debug, PartialEq, Eq)]
 pub struct Place {
     pub transaction: usize,
 }
 
-// What a call that can only accept or refuse answers.
-#[derive(Clone, Copy)]
-pub enum Verdict {
-    Accepted,
-    Refused(Refusal, Place),
+// Why a call refuses, and where: the error of every call that can only accept or refuse.
+#[derive(Clone, Copy, Debug, PartialEq, Eq)]
+pub struct Refused {
+    pub refusal: Refusal,
+    pub place: Place,
 }
+
+// What a call that can only accept or refuse answers.
+pub type Verdict = Result<(), Refused>;
 
 impl Refusal {
     // The paper's number.
@@ -58,6 +61,16 @@ impl Refusal {
             Refusal::BrokenTables => 15,
         }
     }
+
+    // A refusal of the transaction at this index.
+    pub fn at(self, transaction: usize) -> Refused
+        ensures { result ≡ refused_at self transaction }
+    {
+        Refused {
+            refusal: self,
+            place: Place::of(self, transaction),
+        }
+    }
 }
 
 impl Place {
@@ -74,32 +87,33 @@ impl Place {
     }
 }
 
-impl Verdict {
-    // A refusal of the transaction at this index.
-    pub fn refuse(refusal: Refusal, transaction: usize) -> Verdict
-        ensures { result ≡ refused refusal transaction }
-    {
-        let place = Place::of(refusal, transaction);
-        Verdict::Refused(refusal, place)
+// A check of a chain: the transaction at this index is refused where the fault is there; `?` goes on where it is not.
+pub fn refuse_if(fault: bool, refusal: Refusal, transaction: usize) -> Verdict
+    ensures { result ≡ refuse_if fault refusal transaction (Ok tt) }
+{
+    if fault {
+        Err(refusal.at(transaction))
+    } else {
+        Ok(())
     }
+}
 
-    // The refusal's number, and 0 where nothing is refused.
-    pub fn number(self) -> u8
-        ensures { result ≡ verdict_number self }
-    {
-        match self {
-            Verdict::Accepted => 0,
-            Verdict::Refused(refusal, _) => refusal.number(),
-        }
+// The refusal's number, and 0 where nothing is refused.
+pub fn verdict_number(verdict: Verdict) -> u8
+    ensures { result ≡ verdict_number verdict }
+{
+    match verdict {
+        Ok(()) => 0,
+        Err(refused) => refused.refusal.number(),
     }
+}
 
-    // The refusal's place, and 0 where nothing is refused.
-    pub fn place(self) -> usize
-        ensures { result ≡ verdict_place self }
-    {
-        match self {
-            Verdict::Accepted => 0,
-            Verdict::Refused(_, place) => place.transaction,
-        }
+// The refusal's place, and 0 where nothing is refused.
+pub fn verdict_place(verdict: Verdict) -> usize
+    ensures { result ≡ verdict_place verdict }
+{
+    match verdict {
+        Ok(()) => 0,
+        Err(refused) => refused.place.transaction,
     }
 }

@@ -8,7 +8,6 @@ use packed::{Action, ActionRow, Transaction, Unpacked};
 use std::fs::File;
 use std::io;
 use std::rt::Files;
-use terms::Verdict;
 
 fn sum(a: u64, b: u64) -> u64 {
     a.wrapping_add(b)
@@ -52,8 +51,8 @@ fn tally(t: Transaction) -> u64 {
 fn weight(unpacked: Unpacked) -> u64 {
     let verdict = unpacked.verdict;
     match verdict {
-        Verdict::Accepted => tally(unpacked.meaning),
-        Verdict::Refused(_, _) => 1,
+        Ok(()) => tally(unpacked.meaning),
+        Err(_) => 1,
     }
 }
 

@@ -9,7 +9,7 @@ use crate::lent::{Counted, Numbers, alone, moment, range};
 use crate::place::{Placing, place_write, refused_placing, write_at};
 use crate::{Answer, Row, Worker, tables};
 use packed::unpack_at;
-use terms::{Refusal, Verdict};
+use terms::Refusal;
 use versions::Version;
 
 // How many transactions a partition has placed; none past the eighth.
@@ -83,14 +83,14 @@ pub(crate) fn placed(numbers: Numbers, p: usize, plan: Placing) -> Counted
 {
     let verdict = plan.verdict;
     match verdict {
-        Verdict::Accepted => {
+        Ok(()) => {
             let after = with_placed(numbers, p, plan.count);
             Counted {
                 answer: Answer::Accepted,
                 numbers: after,
             }
         }
-        Verdict::Refused(refusal, place) => Counted {
+        Err(why) => Counted {
             answer: Answer::Refused(refusal, place),
             numbers,
         },

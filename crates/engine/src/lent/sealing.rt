@@ -11,7 +11,7 @@ use crate::lent::transactions::row_at;
 use crate::lent::{Counted, Numbers, moment, range};
 use crate::seal::{Sealing, closes, refused_seal};
 use crate::{Answer, Row, Worker, rows as single, tables};
-use terms::{BatchNumber, Position, Refusal, Verdict};
+use terms::{BatchNumber, Position, Refusal};
 use versions::{Version, clear, collect, newest_sound};
 
 // Whether something was not Complete before, or this transaction is not.
@@ -61,7 +61,7 @@ pub(crate) fn consider_seal(
         return refused_seal(Refusal::BrokenTables);
     }
     Sealing {
-        verdict: Verdict::Accepted,
+        verdict: Ok(()),
         next: numbers.next.0 + numbers.size as u64,
         batch: numbers.batch.0 + 1,
     }
@@ -74,7 +74,7 @@ pub(crate) fn closed(numbers: Numbers, sealing: Sealing) -> Counted
 {
     let verdict = sealing.verdict;
     match verdict {
-        Verdict::Accepted => {
+        Ok(()) => {
             let after = Numbers {
                 records: numbers.records,
                 partitions: numbers.partitions,
@@ -89,7 +89,7 @@ pub(crate) fn closed(numbers: Numbers, sealing: Sealing) -> Counted
                 numbers: after,
             }
         }
-        Verdict::Refused(refusal, place) => Counted {
+        Err(why) => Counted {
             answer: Answer::Refused(refusal, place),
             numbers,
         },

@@ -7,21 +7,21 @@ use Rattle.packed.proofs.packing.pack.Goals as goal
 pub returns-then-is_wrong_record_count : goal.returns-then-is_wrong_record_count
 unfolding pack_of verdict_of
 returns-then-is_wrong_record_count c =
-    rw (c.refuse.ensures, ← c.is_wrong_record_count.ensures, c.if-is_wrong_record_count.true) refl
+    rw (c.at.ensures, ← c.is_wrong_record_count.ensures, c.if-is_wrong_record_count.true) refl
 
 pub returns-then-buffer-ne88 : goal.returns-then-buffer-ne88
 unfolding pack_of verdict_of
 returns-then-buffer-ne88 c =
     rw (
-      c.refuse-then-buffer-ne88.ensures,
+      c.at-then-buffer-ne88.ensures,
       ← c.is_wrong_record_count.ensures,
       c.if-is_wrong_record_count.false,
       ne_eqb _ _ c.if-buffer-ne88.true,
     ) refl
 
-pub returns-in-Accepted : goal.returns-in-Accepted
+pub returns-in-Ok : goal.returns-in-Ok
 unfolding pack_of verdict_of
-returns-in-Accepted c =
+returns-in-Ok c =
     rw (
       c.copy_from_slice.ensures.after,
       ← c.is_wrong_record_count.ensures,
@@ -29,17 +29,17 @@ returns-in-Accepted c =
       eq-eqb _ _ c.if-buffer-ne88.false,
       ← c.encoded-b.ensures,
       ← c.entry_verdict-verdict.ensures,
-      c.in-Accepted.is,
+      c.in-Ok.is,
     ) refl
 
-pub returns-in-Refused : goal.returns-in-Refused
+pub returns-in-Err : goal.returns-in-Err
 unfolding pack_of verdict_of
-returns-in-Refused c =
+returns-in-Err c =
     rw (
       ← c.is_wrong_record_count.ensures,
       c.if-is_wrong_record_count.false,
       eq-eqb _ _ c.if-buffer-ne88.false,
       ← c.encoded-b.ensures,
       ← c.entry_verdict-verdict.ensures,
-      c.in-Refused.is,
+      c.in-Err.is,
     ) refl

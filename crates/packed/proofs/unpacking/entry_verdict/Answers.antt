@@ -1,4 +1,4 @@
-use Rattle.std.proofs.Common.{refl, sym, ap, ◌∙◌, not}
+use Rattle.std.proofs.Common.{refl, sym, ap, Err, ◌∙◌, not}
 use Rattle.packed.specs.Checks.{entry_verdict}
 use Rattle.packed.specs.LawsForm.{few_actions}
 use Rattle.packed.specs.LawsEntry.{
@@ -15,7 +15,7 @@ use Rattle.packed.proofs.unpacking.entry_verdict.Goals as goal
 
 pub returns-then-is_malformed : goal.returns-then-is_malformed
 unfolding entry_verdict
-returns-then-is_malformed c = rw (c.refuse.ensures, ← c.is_malformed.ensures, c.if-is_malformed.true) refl
+returns-then-is_malformed c = rw (c.at.ensures, ← c.is_malformed.ensures, c.if-is_malformed.true) refl
 
 pub has_no_such_record-requires : goal.has_no_such_record-requires
 has_no_such_record-requires c =
@@ -25,14 +25,14 @@ pub returns-then-has_no_such_record : goal.returns-then-has_no_such_record
 returns-then-has_no_such_record c =
     let told = sym c.is_malformed.ensures ∙ c.if-is_malformed.false in
     let large = sym c.has_no_such_record.ensures ∙ c.if-has_no_such_record.true in
-    c.refuse-then-has_no_such_record.ensures ∙ no_such_record_lem c.args.n c.args.index c.args.b.now told large
+    ap Err c.at-then-has_no_such_record.ensures ∙ no_such_record_lem c.args.n c.args.index c.args.b.now told large
 
 pub returns-then-not-sets_proper : goal.returns-then-not-sets_proper
 returns-then-not-sets_proper c =
     let told = sym c.is_malformed.ensures ∙ c.if-is_malformed.false in
     let improper = sym c.sets_proper.ensures ∙ c.if-not-sets_proper.true in
     let exist = sym c.has_no_such_record.ensures ∙ c.if-has_no_such_record.false in
-    c.refuse-then-not-sets_proper.ensures ∙ not_ascending_lem c.args.n c.args.index c.args.b.now told improper exist
+    ap Err c.at-then-not-sets_proper.ensures ∙ not_ascending_lem c.args.n c.args.index c.args.b.now told improper exist
 
 pub undeclared_by-undeclared-requires : goal.undeclared_by-undeclared-requires
 undeclared_by-undeclared-requires c =
@@ -57,7 +57,7 @@ returns-then-action_too_large c =
     let told = sym c.is_malformed.ensures ∙ c.if-is_malformed.false in
     let proper = sym c.sets_proper.ensures ∙ c.if-not-sets_proper.false in
     let large = sym c.action_too_large.ensures ∙ c.if-action_too_large.true in
-    c.refuse-then-action_too_large.ensures ∙ too_large c.args.n c.args.index c.args.b.now told proper large
+    ap Err c.at-then-action_too_large.ensures ∙ too_large c.args.n c.args.index c.args.b.now told proper large
 
 pub returns-then-undeclared : goal.returns-then-undeclared
 returns-then-undeclared c =
@@ -65,7 +65,7 @@ returns-then-undeclared c =
     let proper = sym c.sets_proper.ensures ∙ c.if-not-sets_proper.false in
     let small = sym c.action_too_large.ensures ∙ c.if-action_too_large.false in
     let read = sym c.undeclared_by-undeclared.ensures.0 ∙ c.if-undeclared.true in
-    c.refuse-then-undeclared.ensures ∙ undeclared_read_lem c.args.n c.args.index c.args.b.now told proper small read
+    ap Err c.at-then-undeclared.ensures ∙ undeclared_read_lem c.args.n c.args.index c.args.b.now told proper small read
 
 pub returns : goal.returns
 returns c =
@@ -77,4 +77,4 @@ returns c =
     let read = sym by.ensures.0 ∙ unread in
     let write = only_written by.result.read by.result.write (ap not c.if-not-undeclared.false) unread in
     let written = sym (by.ensures.1 unread) ∙ write in
-    c.refuse-2.ensures ∙ undeclared_write_lem c.args.n c.args.index c.args.b.now told proper small read written
+    ap Err c.at-2.ensures ∙ undeclared_write_lem c.args.n c.args.index c.args.b.now told proper small read written
