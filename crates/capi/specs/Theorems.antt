@@ -1,6 +1,6 @@
 -- "State and all tables keep their contents": a run that answers with a refusal number changes none of the caller's
 -- arrays.
-use Rattle.std.specs.Prelude.{ℕ, ◌/◌, Bool, true, false, cond, List, ◌≡◌, refl, ltb, eqb, length, replicate, Ok}
+use Rattle.std.specs.Prelude.{ℕ, ◌/◌, Bool, true, false, cond, List, ◌≡◌, refl, ltb, eqb, length, replicate, Ok, Err}
 use Rattle.std.proofs.Common.{ap, sym, arith, ltb-false, ne_eqb}
 use Rattle.terms.specs.Refusals.{verdict_number, number_of, Verdict}
 use Rattle.versions.specs.Entry.{empty_entry}
@@ -38,14 +38,14 @@ module _ (log steps records results outcomes counts : List ℕ) where
       (after_opened (opened_by v s log newest versions results) log steps records) outcomes counts) records results
       outcomes counts
   after_opening_lem (Ok _) s newest versions some = absurd (some refl)
-  after_opening_lem (Refused refusal place) s newest versions some =
+  after_opening_lem (Err why) s newest versions some =
       let same = none_offered steps log (session_of (begun s) records newest versions results) in (
         ap (λ (z : Session). z.records) same,
         (
           ap (λ (z : Session). z.results) same,
           (
-            sym (other (List ℕ) _ _ outcomes (ne_eqb (number_of refusal) 0 some)),
-            sym (other (List ℕ) _ _ counts (ne_eqb (number_of refusal) 0 some)),
+            sym (other (List ℕ) _ _ outcomes (ne_eqb (number_of why.refusal) 0 some)),
+            sym (other (List ℕ) _ _ counts (ne_eqb (number_of why.refusal) 0 some)),
           ),
         ),
       )

@@ -1,5 +1,5 @@
 -- A session whose transactions and workers are lent: it goes as the session that they make together.
-use Rattle.std.specs.Prelude.{ℕ, ◌*◌, Bool, true, false, not, cond, List, ◌≡◌, refl, T, length, Ok}
+use Rattle.std.specs.Prelude.{ℕ, ◌*◌, Bool, true, false, not, cond, List, ◌≡◌, refl, T, length, Ok, Err}
 use Rattle.std.proofs.Common.{sym, ap, ◌∙◌}
 use Rattle.versions.specs.declared.Version.{Version}
 use Rattle.versions.specs.Seal.{newest_sound_of}
@@ -156,7 +156,7 @@ advance_numbers s w log records newest versions results =
         (move_of s (worker_at s w) log records newest versions).leaves
         (move_of s (worker_at s w) log records newest versions).row
         (move_of s (worker_at s w) log records newest versions).worker
-    go (Fails refusal place) = refl
+    go (Err why) = refl
 
 place_keeps : (s : State) (p : ℕ) (log newest : List ℕ) (versions : List Version)
     → (s.rows ≡ (place_of s p log newest versions).stepped.state.rows)
@@ -168,7 +168,7 @@ place_keeps s p log newest versions = go (place_verdict s p log newest (length v
         → (s.rows ≡ (placed_when v s p log (record { newest = newest; versions = versions })).stepped.state.rows)
         × (s.crew ≡ (placed_when v s p log (record { newest = newest; versions = versions })).stepped.state.crew)
     go (Ok tt) = (refl, refl)
-    go (Fails refusal place) = (refl, refl)
+    go (Err why) = (refl, refl)
 
 seal_keeps : (s : State) (records newest : List ℕ) (versions : List Version)
     → (s.rows ≡ (seal_of s records newest versions).stepped.state.rows)
@@ -182,7 +182,7 @@ seal_keeps s records newest versions =
         → (s.rows ≡ (sealed_by v s records newest versions).stepped.state.rows)
         × (s.crew ≡ (sealed_by v s records newest versions).stepped.state.crew)
     go (Ok tt) = (refl, refl)
-    go (Fails refusal place) = (refl, refl)
+    go (Err why) = (refl, refl)
 
 -- ---- the counts
 counted_same : (tally : Tally) (answer : Answer) (state : State)

@@ -205,7 +205,7 @@ module _ (s : State) (w : ℕ) (log records newest : List ℕ) (versions : List 
   looks_same (Carry j) t = refl
   looks_same (Fill j) t = refl
 
-  move_same : move_at Ok tt ≡ move_of s mine log records newest versions
+  move_same : move_at (Ok tt) ≡ move_of s mine log records newest versions
   move_same =
       looks_same (act_of mine (meaning_at s log mine.transaction)) (meaning_at s log mine.transaction)
 
@@ -224,7 +224,7 @@ module _ (s : State) (w : ℕ) (log records newest : List ℕ) (versions : List 
           → stepped (aim_at v).worker.transaction (move_at v)
           ≡ (advanced_when v s w log records newest versions results).stepped
       go (Ok tt) = ap (stepped mine.transaction) move_same
-      go (Fails refusal place) = refl
+      go (Err why) = refl
 
   pub advance_versions : fill_of versions (fill_by turn.step (length versions))
       ≡ (advance_of s w log records newest versions results).versions
@@ -238,7 +238,7 @@ module _ (s : State) (w : ℕ) (log records newest : List ℕ) (versions : List 
 
       go : (v : Verdict) → filled (move_at v) ≡ (advanced_when v s w log records newest versions results).versions
       go (Ok tt) = ap filled move_same
-      go (Fails refusal place) = refl
+      go (Err why) = refl
 
   pub advance_results : results_by results turn
       ≡ (advance_of s w log records newest versions results).results
@@ -252,4 +252,4 @@ module _ (s : State) (w : ℕ) (log records newest : List ℕ) (versions : List 
           → given (aim_at v).worker.transaction (move_at v)
           ≡ (advanced_when v s w log records newest versions results).results
       go (Ok tt) = ap (given mine.transaction) move_same
-      go (Fails refusal place) = refl
+      go (Err why) = refl

@@ -114,7 +114,7 @@ module _ (numbers : Numbers) (rows : List Row) (crew : List Worker) (p : ℕ) (l
             count = plan.count;
           }))
       go (Ok tt) = refl
-      go (Fails refusal place) = refl
+      go (Err why) = refl
 
   pub lent_counted : counted_as numbers p plan ≡ counted_of (place_of whole p log newest versions).stepped
   lent_counted =

@@ -115,7 +115,7 @@ module _ (numbers : Numbers) (rows : List Row) (crew : List Worker) (records new
           ≡ counted_of
           (closed_as whole (record { verdict = v; next = sealing.next; batch = sealing.batch }))
       go (Ok tt) = refl
-      go (Fails refusal place) = refl
+      go (Err why) = refl
 
   pub lent_counted : closed_numbers numbers plan ≡ counted_of (seal_of whole records newest versions).stepped
   lent_counted =

@@ -4,8 +4,7 @@ use Rattle.std.specs.Prelude.{◌||◌, not, List, ◌≡◌, ltb, eqb, length, 
 use Rattle.std.proofs.Math.Bool.{cond}
 use Rattle.std.proofs.Math.Path.{refl}
 use Rattle.std.proofs.Common.{sym, ap, ◌∙◌, add-one, arith, ltb-false}
-use Rattle.terms.specs.declared.refusal.Place.{Place}
-use Rattle.terms.specs.declared.refusal.Refusal.{Refusal}
+use Rattle.terms.specs.declared.refusal.Refused.{Refused}
 use Rattle.packed.specs.LawsForm.{not_left, not_right}
 use Rattle.packed.specs.Unpacking.{unpack_at_of}
 use Rattle.versions.specs.Table.{clear_of}
@@ -56,10 +55,10 @@ turn_passed n log count index all below so_far passed =
     ∙ so_far
 
 -- or it is refused, and so is the opening
-pub turn_refused : (n : ℕ) (log : List ℕ) (count index : ℕ) (all : Verdict) (refusal : Refusal) (place : Place)
+pub turn_refused : (n : ℕ) (log : List ℕ) (count index : ℕ) (all : Verdict) (why : Refused)
     → index < count → each_in_turn n log (count - index) index ≡ all
-    → (unpack_at_of n log index).verdict ≡ Refused refusal place → (unpack_at_of n log index).verdict ≡ all
-turn_refused n log count index all refusal place below so_far found =
+    → (unpack_at_of n log index).verdict ≡ Err why → (unpack_at_of n log index).verdict ≡ all
+turn_refused n log count index all why below so_far found =
     found
     ∙ sym (ap (λ v. and_then v (each_in_turn n log (count - (index + 1)) (index + 1))) found)
     ∙ sym (turn n log count index below)
@@ -103,7 +102,7 @@ module _ (s : State) (log newest : List ℕ) (versions : List Version) (results 
       go : (v : Verdict)
           → opened_as s (opening_by v (entries_in log)) ≡ (opened_by v s log newest versions results).stepped
       go (Ok tt) = refl
-      go (Refused refusal place) = refl
+      go (Err why) = refl
 
   pub open_newest : cond (is_accepted comes_to.verdict) (none_newest newest) newest
       ≡ (open_of s log newest versions results).newest
@@ -113,7 +112,7 @@ module _ (s : State) (log newest : List ℕ) (versions : List Version) (results 
       go : (v : Verdict) → cond (is_accepted (opening_by v (entries_in log)).verdict) (none_newest newest) newest
           ≡ (opened_by v s log newest versions results).newest
       go (Ok tt) = refl
-      go (Refused refusal place) = refl
+      go (Err why) = refl
 
   pub open_versions : clear_of versions (cond (is_accepted comes_to.verdict) (length versions) 0)
       ≡ (open_of s log newest versions results).versions
@@ -123,7 +122,7 @@ module _ (s : State) (log newest : List ℕ) (versions : List Version) (results 
       go : (v : Verdict) → cond (is_accepted (opening_by v (entries_in log)).verdict) (all_empty versions) versions
           ≡ (opened_by v s log newest versions results).versions
       go (Ok tt) = refl
-      go (Refused refusal place) = refl
+      go (Err why) = refl
 
   pub open_results : cond (is_accepted comes_to.verdict) (all_zero results) results
       ≡ (open_of s log newest versions results).results
@@ -133,4 +132,4 @@ module _ (s : State) (log newest : List ℕ) (versions : List Version) (results 
       go : (v : Verdict) → cond (is_accepted (opening_by v (entries_in log)).verdict) (all_zero results) results
           ≡ (opened_by v s log newest versions results).results
       go (Ok tt) = refl
-      go (Refused refusal place) = refl
+      go (Err why) = refl

@@ -139,7 +139,7 @@ module _ (s : State) (p : ℕ) (log newest : List ℕ) (versions : List Version)
       go : (v : Verdict) → placed_as s p (placing_with v s p (placed_by s p) (meaning_at s log (placed_by s p)))
           ≡ (placed_when v s p log tables).stepped
       go (Ok tt) = refl
-      go (Refused refusal place) = refl
+      go (Err why) = refl
 
   place_plans : writes_on (placing_of s p log newest (length versions)) tables
       ≡ (place_of s p log newest versions).plans
@@ -179,7 +179,7 @@ module _ (s : State) (p : ℕ) (log newest : List ℕ) (versions : List Version)
           ∙ ap (λ q. write_on (write_on q (write 2)) (write 3)) (one (place_below 1 s p i t tables) 1)
           ∙ ap (λ q. write_on q (write 3)) (one (place_below 2 s p i t tables) 2)
           ∙ one (place_below 3 s p i t tables) 3
-      go (Refused refusal place) =
+      go (Err why) =
           ap (λ q. write_on (write_on (write_on q (not_one 1)) (not_one 2)) (not_one 3)) (none tables 0)
           ∙ ap (λ q. write_on (write_on q (not_one 2)) (not_one 3)) (none tables 1)
           ∙ ap (λ q. write_on q (not_one 3)) (none tables 2)

@@ -62,7 +62,7 @@ module _ (s : State) (records newest : List ℕ) (versions : List Version) where
       go : (v : Verdict) → closed_as s (sealing_by v (s.next.0 + s.size) (s.batch.0 + 1))
           ≡ (sealed_by v s records newest versions).stepped
       go (Ok tt) = refl
-      go (Refused refusal place) = refl
+      go (Err why) = refl
 
   pub seal_records : collect_of versions newest records (is_accepted comes_to.verdict)
       ≡ (seal_of s records newest versions).records
@@ -74,7 +74,7 @@ module _ (s : State) (records newest : List ℕ) (versions : List Version) where
           (is_accepted (sealing_by v (s.next.0 + s.size) (s.batch.0 + 1)).verdict)
           ≡ (sealed_by v s records newest versions).records
       go (Ok tt) = refl
-      go (Refused refusal place) = collect_off versions newest records
+      go (Err why) = collect_off versions newest records
 
   pub seal_newest : cond (is_accepted comes_to.verdict) (none_newest newest) newest
       ≡ (seal_of s records newest versions).newest
@@ -85,7 +85,7 @@ module _ (s : State) (records newest : List ℕ) (versions : List Version) where
           → cond (is_accepted (sealing_by v (s.next.0 + s.size) (s.batch.0 + 1)).verdict) (none_newest newest) newest
           ≡ (sealed_by v s records newest versions).newest
       go (Ok tt) = refl
-      go (Refused refusal place) = refl
+      go (Err why) = refl
 
   pub seal_versions : clear_of versions (cond (is_accepted comes_to.verdict) (length versions) 0)
       ≡ (seal_of s records newest versions).versions
@@ -98,4 +98,4 @@ module _ (s : State) (records newest : List ℕ) (versions : List Version) where
           versions
           ≡ (sealed_by v s records newest versions).versions
       go (Ok tt) = refl
-      go (Refused refusal place) = refl
+      go (Err why) = refl

@@ -1,6 +1,7 @@
 -- Theorems of the calls, for every input: a refused call keeps the state and every lent table; and where a call unpacks
 -- an entry of the log after its other checks, only 4 to 8 can come of that.
-use Rattle.std.specs.Prelude.{ℕ, ◌+◌, ◌*◌, ◌≤◌, Bool, true, false, not, List, ◌≡◌, refl, ltb, leb, eqb, length, Ok}
+use Rattle.std.specs.Prelude.{ℕ, ◌+◌, ◌*◌, ◌≤◌, Bool, true, false, not}
+use Rattle.std.specs.Prelude.{List, ◌≡◌, refl, ltb, leb, eqb, length, Ok, Err}
 use Rattle.std.proofs.Common.{sym, arith, eqb-true, leb-false}
 use Rattle.std.proofs.lemmas.Bool.{eqb-false, not-false}
 use Rattle.terms.specs.Refusals.{number_of, refuse_if, verdict_number, Verdict}
@@ -74,7 +75,7 @@ refused_open s log newest versions results = go (open_verdict s log (length newe
         × ((opened_by v s log newest versions results).versions ≡ versions)
         × ((opened_by v s log newest versions results).results ≡ results)
     go (Ok tt) refused = never refused
-    go (Fails refusal at) refused = (refl, refl, refl, refl)
+    go (Err why) refused = (refl, refl, refl, refl)
 
 pub refused_place : (s : State) (p : ℕ) (log newest : List ℕ) (versions : List Version)
     → is_refused (place_of s p log newest versions).stepped.answer ≡ true
@@ -90,7 +91,7 @@ refused_place s p log newest versions =
         × ((placed_when v s p log plans).plans.newest ≡ plans.newest)
         × ((placed_when v s p log plans).plans.versions ≡ plans.versions)
     go (Ok tt) plans refused = never refused
-    go (Fails refusal at) plans refused = (refl, refl, refl)
+    go (Err why) plans refused = (refl, refl, refl)
 
 pub refused_claim : (s : State) (w i : ℕ) → is_refused (claim_of s w i).answer ≡ true → (claim_of s w i).state ≡ s
 unfolding claim_of
@@ -134,7 +135,7 @@ refused_advance s w log records newest versions results =
         quiet_keeps (move_of s worker log records newest versions)
         (quiet_move (act_of worker t) worker t (look_of s worker.transaction records newest versions))
         s w worker.transaction versions results
-    go (Fails refusal at) = λ refused. (refl, refl, refl)
+    go (Err why) = λ refused. (refl, refl, refl)
 
 pub refused_seal : (s : State) (records newest : List ℕ) (versions : List Version)
     → is_refused (seal_of s records newest versions).stepped.answer ≡ true
@@ -153,7 +154,7 @@ refused_seal s records newest versions =
         × ((sealed_by v s records newest versions).newest ≡ newest)
         × ((sealed_by v s records newest versions).versions ≡ versions)
     go (Ok tt) refused = never refused
-    go (Fails refusal at) refused = (refl, refl, refl, refl)
+    go (Err why) refused = (refl, refl, refl, refl)
 
 -- ---- "then each transaction in turn 4 to 8"; "the one transaction's 4 to 8"
 

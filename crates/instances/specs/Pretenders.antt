@@ -1,7 +1,7 @@
 -- Two more of document 01's impostors: one that runs the whole batch at its first step and then pretends, and one whose
 -- step or wait numbers are invented. That a later step which changes nothing is no answer is said in `Impostors`
 -- (`place_idle_later`, `claim_idle`, `advance_idle`, `seal_idle`).
-use Rattle.std.specs.Prelude.{ℕ, zero, suc, Bool, true, false, cond, List, [], Ok}
+use Rattle.std.specs.Prelude.{ℕ, zero, suc, Bool, true, false, cond, List, [], Ok, Err}
 use Rattle.std.specs.Prelude.{◌∷◌, map, ◌≢◌, ◌≡◌, refl, length, get_or, replicate}
 use Rattle.std.proofs.Common.{sym, ap, ◌∙◌}
 use Rattle.terms.specs.declared.refusal.Place.{Place}
@@ -47,7 +47,7 @@ place_keeps_rows s p bytes newest versions r newest_exit versions_exit met =
         → ((placed_when v s p bytes (record { newest = newest; versions = versions })).stepped.state.rows ≡ s.rows)
         × ((placed_when v s p bytes (record { newest = newest; versions = versions })).stepped.state.crew ≡ s.crew)
     go (Ok tt) = (refl, refl)
-    go (Fails refusal at) = (refl, refl)
+    go (Err why) = (refl, refl)
 
 -- an entry put in a table is marked only if the entry that it takes the place of was: then nothing more is marked
 put_marks : (versions : List Version) (slot : ℕ) (version : Version) (other : ℕ)
@@ -104,7 +104,7 @@ place_produces_nothing s p bytes newest versions r newest_exit versions_exit met
     go (Ok tt) then =
         below_marks 4 s p (placed_by s p) (meaning_at s bytes (placed_by s p))
         (record { newest = newest; versions = versions }) slot then
-    go (Fails refusal at) then = then
+    go (Err why) then = then
 
 -- every entry of a list of the same is that
 same_everywhere : {A : Type 0} (count i : ℕ) (x : A) → get_or (replicate count x) i x ≡ x

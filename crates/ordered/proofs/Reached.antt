@@ -2,7 +2,7 @@
 use Prim.Native.Nat.{ℕ, ◌≤◌, ◌<◌}
 use Rattle.std.specs.Prelude.{Bool, ◌≡◌, refl, List, [], ◌∷◌, ◌++◌, map, length, take, Ok}
 use Rattle.std.proofs.Math.Bool.{true, false}
-use Rattle.std.proofs.Common.{sym, ◌∙◌, subst, arith, take_all}
+use Rattle.std.proofs.Common.{sym, ◌∙◌, subst, arith, take_all, Err}
 use Rattle.std.proofs.Math.Path.{ap}
 use Rattle.std.proofs.Math.Decide.{ℕ_discrete}
 use Rattle.std.proofs.lemmas.List.{length-map}
@@ -68,7 +68,7 @@ opening_verdict log e accepted = go (verdict_of log e) refl accepted
         → is_accepted (opened_by verdict e.state log e.newest e.versions e.results).stepped.answer ≡ true
         → verdict_of log e ≡ Ok tt
     go (Ok tt) is passed = is
-    go (Fails refusal at) is passed = not_both (sym passed)
+    go (Err why) is passed = not_both (sym passed)
 
 module _ (log : List ℕ) (e : Engine) (eight : length e.state.placed ≡ 8) (accepts : verdict_of log e ≡ (Ok _)) where
   -- the engine just opened

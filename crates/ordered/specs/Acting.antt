@@ -1,5 +1,5 @@
 -- An advance, in a state that the engine reaches.
-use Rattle.std.specs.Prelude.{ℕ, ◌<◌, false, ◌≡◌, List, leb, length, Ok}
+use Rattle.std.specs.Prelude.{ℕ, ◌<◌, false, ◌≡◌, List, leb, length, Ok, Err}
 use Rattle.std.proofs.Math.Option.{some}
 use Rattle.std.proofs.Math.Path.{refl}
 use Rattle.std.proofs.Common.{sym, ◌∙◌, arith}
@@ -95,4 +95,4 @@ module _ (B : order.Batch ℕ Outcome) (o : State) (log stored : List ℕ) (d : 
           ≡ store.accepted answer next
           → CanAdvance w
       go (Ok tt) is reply = advance_passed w is
-      go (Fails refusal at) is reply = absurd (clash (cc))
+      go (Err why) is reply = absurd (clash (cc))

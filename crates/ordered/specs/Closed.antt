@@ -1,5 +1,5 @@
 -- After an accepted seal no batch is open, and every step is refused, by 9 or by an earlier check.
-use Rattle.std.specs.Prelude.{ℕ, ◌*◌, Bool, ◌≡◌, List, length, Ok}
+use Rattle.std.specs.Prelude.{ℕ, ◌*◌, Bool, ◌≡◌, List, length, Ok, Err}
 use Rattle.std.proofs.Math.Bool.{true, false}
 use Rattle.std.proofs.Math.Path.{refl}
 use Rattle.terms.specs.declared.refusal.Refusal.TheVariants.{WrongParameter, StateOutOfRange, WrongMoment}
@@ -33,7 +33,7 @@ module _ (log : List ℕ) (e : Engine) (none_open : no_batch e.state ≡ true) w
           (placed_when verdict e.state p log (record { newest = e.newest; versions = e.versions })))
           ≡ store.refused
       go (Ok tt) refused = absurd refused
-      go (Refused refusal at) refused = refl
+      go (Err why) refused = refl
 
   claim_refused : (w i : ℕ) → reply_to (offered log e (claim w i)) ≡ store.refused
   unfolding offered claim_of not_running
@@ -62,7 +62,7 @@ module _ (log : List ℕ) (e : Engine) (none_open : no_batch e.state ≡ true) w
           (advanced_when verdict e.state w log e.records e.newest e.versions e.results))
           ≡ store.refused
       go (Ok tt) refused = absurd refused
-      go (Refused refusal at) refused = refl
+      go (Err why) refused = refl
 
   seal_refused : reply_to (offered log e seal) ≡ store.refused
   unfolding offered seal_of seal_verdict not_sealable
@@ -77,7 +77,7 @@ module _ (log : List ℕ) (e : Engine) (none_open : no_batch e.state ≡ true) w
           → reply_to (running.after_seal e (sealed_by verdict e.state e.records e.newest e.versions))
           ≡ store.refused
       go (Ok tt) refused = absurd refused
-      go (Refused refusal at) refused = refl
+      go (Err why) refused = refl
 
   pub all_refused : (offer : store.Offer) → offer_to log e offer ≡ store.refused
   all_refused (store.step (machine.place p)) = place_refused p

@@ -34,7 +34,7 @@ place_count s p log newest versions = go (place_verdict s p log newest (length v
         → (placed_when verdict s p log (record { newest = newest; versions = versions })).stepped.state.records
         ≡ s.records
     go (Ok tt) = refl
-    go (Fails refusal at) = refl
+    go (Err why) = refl
 
 claim_count : (s : State) (w i : ℕ) → (claim_of s w i).state.records ≡ s.records
 unfolding claim_of

@@ -1,7 +1,7 @@
 -- A place step, in a state that the engine reaches.
 use Prim.Native.Nat.{ℕ, suc, ◌+◌, ◌*◌, ◌%◌, ◌<◌}
 use Rattle.std.proofs.Math.Bool.{true, false}
-use Rattle.std.specs.Prelude.{◌&&◌, not, ◌≡◌, List, leb, length, set, Ok}
+use Rattle.std.specs.Prelude.{◌&&◌, not, ◌≡◌, List, leb, length, set, Ok, Err}
 use Rattle.std.proofs.Math.Path.{refl, sym, ap}
 use Rattle.std.proofs.Common.{◌∙◌, arith}
 use Rattle.std.proofs.Math.Decide.{ℕ_discrete, dec_lt}
@@ -266,4 +266,4 @@ module _ (B : order.Batch ℕ Outcome) (o : State) (log stored : List ℕ) (d : 
           ≡ store.accepted answer next
           → (p < o.partitions) × (m.plan.placed p < o.size)
       go (Ok tt) is reply = place_passed p is
-      go (Refused refusal where_at) is reply = absurd (clash (cc))
+      go (Err why) is reply = absurd (clash (cc))

@@ -1,6 +1,6 @@
 -- The seal, in a state that the engine reaches; and that nothing is accepted after it.
 use Prim.Native.Nat.{ℕ, zero, suc, ◌*◌, ◌<◌}
-use Rattle.std.specs.Prelude.{Bool, false, ◌||◌, ◌≡◌, List, ltb, eqb, length, Ok}
+use Rattle.std.specs.Prelude.{Bool, false, ◌||◌, ◌≡◌, List, ltb, eqb, length, Ok, Err}
 use Rattle.std.proofs.Math.Bool.{true}
 use Rattle.std.proofs.Math.Path.{refl}
 use Rattle.std.proofs.Common.{sym, ap, ◌∙◌, arith}
@@ -198,4 +198,4 @@ module _ (B : order.Batch ℕ Outcome) (o : State) (log stored : List ℕ) (d : 
           ≡ store.accepted answer next
           → machine.AllComplete B m × (next ≡ sealed_engine e)
       go (Ok tt) is reply = (seal_passed is, (cc))
-      go (Refused refusal at) is reply = absurd (clash (cc))
+      go (Err why) is reply = absurd (clash (cc))

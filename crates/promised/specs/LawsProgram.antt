@@ -1,6 +1,6 @@
 -- The program's run and the library's are one: the same store made, the same batch opened with tables that hold the
 -- same, and the same steps offered.
-use Rattle.std.specs.Prelude.{ℕ, zero, suc, ◌≤◌, Bool, true, false, ◌||◌, cond, Ok}
+use Rattle.std.specs.Prelude.{ℕ, zero, suc, ◌≤◌, Bool, true, false, ◌||◌, cond, Ok, Err}
 use Rattle.std.specs.Prelude.{List, [], ◌∷◌, ◌≡◌, ltb, eqb, length, take, replicate}
 use Rattle.std.proofs.Math.Path.{refl, sym, ap}
 use Rattle.std.proofs.Common.{◌∙◌, arith, ltb-false, ne_eqb, length-append}
@@ -137,11 +137,11 @@ module _ (s : State) (n : ℕ) (as_made : s.records ≡ n) (eight : length s.pla
       (length-replicate {A = ℕ} 256 0 ∙ sym lent)
       ∙ printed_told n log (last is) outcomes counts long four
       (opens s log (length newest) (length versions) (length results) is).few_entries (same_count is)
-  by_verdict (Fails refusal place) is =
+  by_verdict (Err why) is =
       sym
       (ap (λ (none : Bool).
-      cond none (lines_of n log (handed (Fails refusal place))) (refused_line (number_of refusal)))
-      (ne_eqb (number_of refusal) 0 (λ none. omega (arith, none, positive refusal))))
+      cond none (lines_of n log (handed (Err why))) (refused_line (number_of why.refusal)))
+      (ne_eqb (number_of why.refusal) 0 (λ none. omega (arith, none, positive why.refusal))))
 
   pub opened_told : program.after_opening (open_of s log newest versions zeros).stepped.answer
       (open_of s log newest versions zeros) records log steps

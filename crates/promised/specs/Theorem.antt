@@ -4,7 +4,7 @@
 --
 -- The hypotheses are what the call hands back: its number is 0, and its fourth count is 1. Nothing is asked of the
 -- arguments.
-use Rattle.std.specs.Prelude.{ℕ, ◌≤◌, Bool, true, false, ◌||◌, cond, List, Ok}
+use Rattle.std.specs.Prelude.{ℕ, ◌≤◌, Bool, true, false, ◌||◌, cond, List, Ok, Err}
 use Rattle.std.specs.Prelude.{map, ◌≡◌, refl, eqb, length, get_or, take, replicate}
 use Rattle.std.proofs.Common.{sym, ap, ◌∙◌, arith, eq-eqb, eqb-true}
 use Rattle.std.proofs.Math.Path.{subst}
@@ -86,7 +86,7 @@ few_entries s log newest results versions = go (open_verdict s log (length newes
     go : (verdict : Verdict) → open_verdict s log (length newest) (length versions) (length results) ≡ verdict
         → answer_number (opened_by verdict s log newest versions results).stepped.answer ≡ 0 → entries_in log ≤ 64
     go (Ok tt) is none = (opens s log (length newest) (length versions) (length results) is).few_entries
-    go (Fails refusal place) is none = absurd (omega (arith, none, positive refusal))
+    go (Err why) is none = absurd (omega (arith, none, positive why.refusal))
 
 -- the lengths that a run asks for
 each_right : (a b c : Bool) → (a || b || c) ≡ false → (b ≡ false) × (c ≡ false)

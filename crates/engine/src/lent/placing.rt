@@ -91,7 +91,7 @@ pub(crate) fn placed(numbers: Numbers, p: usize, plan: Placing) -> Counted
             }
         }
         Err(why) => Counted {
-            answer: Answer::Refused(refusal, place),
+            answer: Answer::Refused(why.refusal, why.place),
             numbers,
         },
     }

@@ -90,7 +90,7 @@ pub(crate) fn closed(numbers: Numbers, sealing: Sealing) -> Counted
             }
         }
         Err(why) => Counted {
-            answer: Answer::Refused(refusal, place),
+            answer: Answer::Refused(why.refusal, why.place),
             numbers,
         },
     }

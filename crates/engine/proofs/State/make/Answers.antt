@@ -7,7 +7,7 @@ unfolding make_of
 returns-then-is_wrong_parameter c =
     rw (
       c.fresh-state.ensures,
-      c.refuse-verdict.ensures,
+      c.at.ensures,
       ← c.is_wrong_parameter.ensures,
       c.if-is_wrong_parameter.true,
     ) refl

@@ -8,7 +8,7 @@ returns-then-some_meets_wrong c =
     let told =
     meets_told a.self.partitions a.p a.transaction a.entry.meaning a.newest.now c.here_of-here.ensures
     c.some_meets_wrong.ensures in
-    rw (c.refused_placing.ensures, c.in-Accepted.is, ← told, c.if-some_meets_wrong.true) refl
+    rw (c.refused_placing.ensures, c.in-Ok.is, ← told, c.if-some_meets_wrong.true) refl
 
 pub returns-else-some_meets_wrong : goal.returns-else-some_meets_wrong
 returns-else-some_meets_wrong c =
@@ -16,4 +16,4 @@ returns-else-some_meets_wrong c =
     let told =
     meets_told a.self.partitions a.p a.transaction a.entry.meaning a.newest.now c.here_of-here.ensures
     c.some_meets_wrong.ensures in
-    rw (c.here_of-here.ensures, c.in-Accepted.is, ← told, c.if-some_meets_wrong.false) refl
+    rw (c.here_of-here.ensures, c.in-Ok.is, ← told, c.if-some_meets_wrong.false) refl

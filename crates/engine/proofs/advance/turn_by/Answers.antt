@@ -2,10 +2,10 @@ use Rattle.std.proofs.Common.{refl}
 use Rattle.engine.specs.LawsAdvance.{turn_by}
 use Rattle.engine.proofs.advance.turn_by.Goals as goal
 
-pub returns-in-Refused : goal.returns-in-Refused
+pub returns-in-Err : goal.returns-in-Err
 unfolding turn_by
-returns-in-Refused c = rw (c.keeps-step.ensures, c.in-Refused.is) refl
+returns-in-Err c = rw (c.keeps-step.ensures, c.in-Err.is) refl
 
-pub returns-in-Accepted : goal.returns-in-Accepted
+pub returns-in-Ok : goal.returns-in-Ok
 unfolding turn_by
-returns-in-Accepted c = rw (c.move_by-step.ensures, c.in-Accepted.is) refl
+returns-in-Ok c = rw (c.move_by-step.ensures, c.in-Ok.is) refl

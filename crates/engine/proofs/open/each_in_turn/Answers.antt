@@ -5,4 +5,4 @@ use Rattle.engine.proofs.open.each_in_turn.Goals as goal
 pub loop-index-preserved : goal.loop-index-preserved
 loop-index-preserved c =
     let told = ap (λ u. u.verdict) c.unpack_at-entry.ensures in
-    (omega arith, turn_passed _ _ _ _ _ c.loop-index-test.true c.loop-index.invariant.1 (sym told ∙ c.in-Accepted.is))
+    (omega arith, turn_passed _ _ _ _ _ c.loop-index-test.true c.loop-index.invariant.1 (sym told ∙ c.in-Ok.is))
