@@ -5,7 +5,6 @@ use Rattle.std.proofs.Common.{sym, ap, ◌∙◌, subst, zero-le, suc-le-suc}
 use Rattle.std.proofs.Common.{not-suc-le-zero, le_of_suc-le-suc, le_refl, le_trans, lt_irrefl, length-set}
 use Rattle.std.proofs.Math.Nat.{le-suc}
 use Rattle.terms.specs.Reserved.{no_slot}
-use Rattle.versions.specs.Entry.{empty_entry}
 use Rattle.versions.specs.LawsTable.{set_here, set_other}
 use Rattle.versions.specs.Seal.{slot_of, slot_sound, sound_below, newest_sound_of, collect_below, collect_of}
 use Rattle.versions.specs.Table.{entry_of, lesser_of}
@@ -18,11 +17,6 @@ last_or_below zero (suc n) l f g = g (suc-le-suc zero-le)
 last_or_below (suc m) zero l f g = absurd (not-suc-le-zero (le_of_suc-le-suc l))
 last_or_below (suc m) (suc n) l f g =
     last_or_below m n (le_of_suc-le-suc l) (λ e. f (ap suc e)) (λ h. g (suc-le-suc h))
-
--- the entry that a newest slot names, as the code looks for it: where the slot is none it looks for no entry, and the
--- empty one stands for it
-abbrev pub named_of : List Version → ℕ → Version
-named_of versions slot = cond (eqb slot no_slot) empty_entry (entry_of versions slot)
 
 -- ---- the newest contents taken
 take_length : (t : Bool) (records : List ℕ) (number contents : ℕ)
