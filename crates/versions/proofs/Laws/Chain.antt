@@ -24,7 +24,13 @@ module _ (versions : List Version) (at : ℕ) where
   enough zero j limit slot h g = absurd (omega arith)
   enough (suc k) zero limit slot h g = absurd (omega arith)
   enough (suc k) (suc j) limit slot h g =
-      onward_same (eqb slot no_slot) (leb limit slot) (ltb (entry_of versions slot).begin at) (entry_of versions slot) _ _
+      onward_same
+      (eqb slot no_slot)
+      (leb limit slot)
+      (ltb (entry_of versions slot).begin at)
+      (entry_of versions slot)
+      _
+      _
       (λ e.
       let less : slot < limit = leb-false limit slot e in
       enough k j slot (entry_of versions slot).previous (omega arith) (omega arith))

@@ -15,7 +15,8 @@ pub clear_is : (versions : List Version) (count : ℕ)
 clear_is [] zero = refl
 clear_is [] (suc count) = simp unary_clauses
 clear_is (version ∷ versions) zero = simp unary_clauses
-clear_is (version ∷ versions) (suc count) = simp unary_clauses (ap (λ (l : List Version). empty_entry ∷ l) (clear_is versions count))
+clear_is (version ∷ versions) (suc count) =
+    simp unary_clauses (ap (λ (rest : List Version). empty_entry ∷ rest) (clear_is versions count))
 
 pub lesser_is : (a b : ℕ) → lesser_of a b ≡ min a b
 lesser_is a b = cases (dec_lt a b)

@@ -7,5 +7,6 @@ use Rattle.versions.proofs.table.clear.Goals as goal
 pub returns : goal.returns
 returns c =
     let versions = c.args.versions.now in
-    rw (c.fill.ensures.after (λ y e. e), c.min-stop.ensures, length-take-le _ _ (min-le_right c.args.count (length versions)), c.empty.ensures)
+    let within = length-take-le _ _ (min-le_right c.args.count (length versions)) in
+    rw (c.fill.ensures.after (λ y e. e), c.min-stop.ensures, within, c.empty.ensures)
     (clear_is versions c.args.count)
