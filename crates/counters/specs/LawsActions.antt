@@ -92,15 +92,7 @@ next_row t rows i none copy within =
     (λ (left : List ActionRow). act_all (memory_of t) (actions_in left) (goes_on copy))
     (sym (drop_more rows i none within))
 
--- an action that goes on leaves the rest,
-pub goes_on_lem : (t : Transaction) (rows : List ActionRow) (i : ℕ) (none : ActionRow) (copy next : WorkingCopy)
-    → i < length rows → act (memory_of t) (get_or rows i none).action copy ≡ goes_on next
-    → act_all (memory_of t) (actions_in (drop (i + 1) rows)) (goes_on next)
-    ≡ act_all (memory_of t) (actions_in (drop i rows)) (goes_on copy)
-goes_on_lem t rows i none copy next within does =
-    ap (act_all (memory_of t) (actions_in (drop (i + 1) rows))) (sym does) ∙ next_row t rows i none copy within
-
--- and after one that aborts all abort
+-- after one that aborts all abort
 pub stops : (t : Transaction) (rows : List ActionRow) (i : ℕ) (none : ActionRow) (copy : WorkingCopy)
     → i < length rows → act (memory_of t) (get_or rows i none).action copy ≡ aborts
     → aborts ≡ act_all (memory_of t) (actions_in (drop i rows)) (goes_on copy)

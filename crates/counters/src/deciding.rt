@@ -66,7 +66,7 @@ impl WorkingCopy {
 fn unreached(writecount: u8, reached: [bool; 4]) -> [bool; 4]
     ensures { result ≡ unreached writecount reached }
 {
-    std::array::from_fn(|j| j < usize::from(writecount) && !reached[j])
+    std::array::from_fn(|j| (j < usize::from(writecount)) & !reached[j])
 }
 
 // What a transaction decides on the values read.

@@ -35,5 +35,5 @@ returns-in_default-place_in c =
       | in-Some w ↦ let found = at_found w.in-Some.read read w.in-Some.ensures in
           rw (w.self-is, found.0, kept, unmarked)
       | in_default w ↦ let unread = none_stored copy.values read c.args.value values w.in_default.ensures in
-      rw (w.self-is, unread, kept, unmarked)
+          rw (w.self-is, unread, kept, unmarked)
     ]
