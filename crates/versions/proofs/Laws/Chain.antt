@@ -1,11 +1,9 @@
 -- What is left of a walk after a step is the whole: more steps than are enough change nothing.
-use Rattle.std.proofs.Common.{◌≡◌, refl, Bool, true, false, cond, List, ℕ, zero, suc, ◌<◌, ◌≤◌}
+use Rattle.std.proofs.Common.{◌≡◌, refl, Bool, true, false, List, ℕ, zero, suc, ◌<◌, ◌≤◌}
 use Rattle.std.proofs.Common.{ltb, leb, eqb, arith, le-ltb}
 use Rattle.std.proofs.lemmas.Bool.{leb-false, lt-leb}
-use Rattle.std.specs.Prelude.{None, Some}
 use Rattle.terms.specs.Reserved.{no_slot}
 use Rattle.versions.specs.Chain.{at_slot, walk_from}
-use Rattle.versions.specs.LawsTable.{slot_named}
 use Rattle.versions.specs.Table.{entry_of}
 use Rattle.versions.specs.declared.Version.{Version}
 use Rattle.versions.specs.declared.chain.Walked.{Walked}
@@ -42,11 +40,3 @@ module _ (versions : List Version) (at : ℕ) where
       let least : at ≤ (entry_of versions slot).begin = rw is at later in
       rw (is, some, lt-leb limit slot less, le-ltb (entry_of versions slot).begin at least)
       (enough (suc slot) limit slot (entry_of versions slot).previous (omega arith) less)
-
-named_if : (t : Bool) (slot number : ℕ) → Some slot ≡ cond t None (Some number) → (t ≡ false) × (slot ≡ number)
-named_if true slot number same = absurd cc
-named_if false slot number same = (refl, cc)
-
--- a number that names a slot is that slot, and not "none"
-pub named : (slot number : ℕ) → Some slot ≡ slot_named number → (eqb number no_slot ≡ false) × (slot ≡ number)
-named slot number same = named_if (eqb number no_slot) slot number same
