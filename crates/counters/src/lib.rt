@@ -15,8 +15,8 @@ pub enum Outcome {
 }
 
 // What a transaction decides: its outcome and, for each declared write, the new contents and whether it is carried. A
-// carried write has contents 0 until its carry; past the write count contents are 0 and nothing is carried. The two arrays
-// are document 01's "new contents, carry marks", and the theorems cite each by itself.
+// carried write has contents 0 until its carry; past the write count contents are 0 and nothing is carried. The two
+// arrays are document 01's "new contents, carry marks", and the theorems cite each by itself.
 #[derive(Clone, Copy, Debug, PartialEq, Eq)]
 pub struct Decision {
     pub outcome: Outcome,
