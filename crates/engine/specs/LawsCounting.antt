@@ -109,12 +109,11 @@ any_first {A} test past (suc bound) xs none =
         )
         (or_none (list_any asks entries))
 
--- all of them
-pub any_entry : {A : Type 0} (test : ℕ → A → Bool) (past : A) (bound : ℕ) (xs : List A) → length xs ≤ bound
-    → ((k : ℕ) → length xs ≤ k → k < bound → test k past ≡ false)
+-- all of them, of so many
+pub any_entry : {A : Type 0} (test : ℕ → A → Bool) (past : A) (bound : ℕ) (xs : List A) → length xs ≡ bound
     → list_any (λ entry. test entry.0 entry.1) (enumerate_from 0 xs)
     ≡ some_below bound (λ k. test k (get_or xs k past))
-any_entry test past bound xs most none =
+any_entry test past bound xs many =
     ap (list_any (λ entry. test entry.0 entry.1))
-    (sym (take_all bound (enumerate_from 0 xs) (rw (length-enumerate_from 0 xs) most)))
-    ∙ any_first test past bound xs none
+    (sym (take_all bound (enumerate_from 0 xs) (rw (length-enumerate_from 0 xs) (omega (arith, many)))))
+    ∙ any_first test past bound xs (λ k more below. absurd (omega (arith, many, more, below)))

@@ -22,6 +22,7 @@ impl Numbers {
     }
 
     // "claim or advance before planning ends or with none open"
+    #[tactic(auto, unfolding(crate::specs::Moment::not_running))]
     pub(crate) fn is_not_running(self) -> bool
         ensures { result ≡ not_running (joined self [] []) }
     {
@@ -29,6 +30,7 @@ impl Numbers {
     }
 
     // "place outside planning"
+    #[tactic(auto, unfolding(crate::specs::Moment::not_planning))]
     pub(crate) fn is_not_planning(self) -> bool
         ensures { result ≡ not_planning (joined self [] []) }
     {

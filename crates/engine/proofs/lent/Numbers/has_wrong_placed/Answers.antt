@@ -1,4 +1,4 @@
-use Rattle.std.proofs.Common.{◌≡◌, ◌∙◌, ◌||◌, ◌&&◌, not, ltb, leb, eqb, length, rules, arith}
+use Rattle.std.proofs.Common.{◌∙◌, ◌||◌, ◌&&◌, not, ltb, leb, eqb, rules}
 use Rattle.std.proofs.lemmas.Iterator.{YieldsList-from_slice}
 use Rattle.std.proofs.lemmas.Iterator.Consumers.{YieldsList-from_enumerate}
 use Rattle.std.proofs.lemmas.Iterator.Search.{any_from_yields_List}
@@ -8,7 +8,6 @@ use Rattle.engine.proofs.lent.Numbers.has_wrong_placed.Goals as goal
 pub returns : goal.returns
 returns c =
     let numbers = c.args.self in
-    let eight : length numbers.placed ≡ 8 = search rules in
     any_from_yields_List
     (λ entry. ltb numbers.size entry.1 || (leb numbers.partitions entry.0 && not (eqb entry.1 0)))
     _
@@ -17,9 +16,4 @@ returns c =
     c.any.ensures.ran
     (YieldsList-from_enumerate (YieldsList-from_slice numbers.placed cc) cc)
     (λ x b q k. search rules)
-    ∙ any_entry (λ p placed. ltb numbers.size placed || (leb numbers.partitions p && not (eqb placed 0)))
-    0
-    8
-    numbers.placed
-    (omega (arith, eight))
-    (λ k past below. absurd (omega (arith, eight, past, below)))
+    ∙ any_entry (λ p placed. ltb numbers.size placed || (leb numbers.partitions p && not (eqb placed 0))) 0 8 numbers.placed (search rules)
