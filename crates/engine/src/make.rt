@@ -1,5 +1,5 @@
 // Making a store.
-ghost use Rattle.std.specs.Prelude.{◌≡◌, ◌≤◌};
+ghost use Rattle.std.specs.Prelude.{◌≡◌};
 ghost use Rattle.engine.specs.Make.{wrong_parameter, make_of};
 ghost use Rattle.engine.specs.States.{unopened};
 

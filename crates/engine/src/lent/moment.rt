@@ -1,5 +1,5 @@
 // Refusal 9, "wrong moment", and the other checks that ask of the numbers alone.
-ghost use Rattle.std.specs.Prelude.{◌≡◌, ◌&&◌, [], ◌*◌, not, ltb, eqb};
+ghost use Rattle.std.specs.Prelude.{◌≡◌, [], ◌*◌};
 ghost use Rattle.engine.specs.Advance.{wrong_for_advance};
 ghost use Rattle.engine.specs.Claim.{no_such_claim};
 ghost use Rattle.engine.specs.Counting.{some_below};

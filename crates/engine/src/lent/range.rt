@@ -11,13 +11,6 @@ use crate::lent::crew::worker_at;
 use crate::lent::transactions::row_at;
 use crate::{Progress, Row, Worker, rows as single, workers};
 
-// "a placed count above n, or not 0 past P"
-fn is_wrong_placed(placed: u8, partition: usize, size: u8, partitions: u8) -> bool
-    ensures { result ≡ (ltb size placed || (leb partitions partition && not (eqb placed 0))) }
-{
-    (size < placed) | ((partitions as usize <= partition) & (placed != 0))
-}
-
 // "Executing by a worker that does not hold it"
 fn is_not_held(crew: &[Worker], i: usize, row: Row) -> bool
     ensures { result ≡ not_held_by crew.now i row.progress }
@@ -33,7 +26,7 @@ fn is_not_held(crew: &[Worker], i: usize, row: Row) -> bool
 
 impl Numbers {
     // "N, P, W; n above 64; F zero or F + n above 2^64 − 1; batch number not below F"
-    pub(crate) fn has_wrong_number(self) -> bool
+    fn has_wrong_number(self) -> bool
         ensures { result ≡ numbers_wrong (joined self [] []) }
     {
         let next = self.next.0;
@@ -46,15 +39,20 @@ impl Numbers {
             | (next <= self.batch.0)
     }
 
-    pub(crate) fn has_wrong_placed(self) -> bool
+    // "a placed count above n, or not 0 past P"
+    fn is_wrong_placed(self, p: usize, placed: u8) -> bool
+        ensures { result ≡ (ltb self.size placed || (leb self.partitions p && not (eqb placed 0))) }
+    {
+        (self.size < placed) | ((self.partitions as usize <= p) & (placed != 0))
+    }
+
+    fn has_wrong_placed(self) -> bool
         ensures { result ≡ some_below 8 (placed_wrong (joined self [] [])) }
     {
-        self.placed.iter().enumerate().any(|(p, &placed)| is_wrong_placed(
-            placed,
-            p,
-            self.size,
-            self.partitions,
-        ))
+        self.placed
+            .iter()
+            .enumerate()
+            .any(|(p, &placed)| self.is_wrong_placed(p, placed))
     }
 
     // "a worker past W not idle; a worker's transaction not below n, or one of its counts above 4; a worker holding a
