@@ -17,7 +17,7 @@ impl Numbers {
     fn is_planning(self) -> bool
         ensures { result ≡ some_below 8 (places_still (joined self [] [])) }
     {
-        self.placed.iter().enumerate().any(|(p, &placed)| p < self.partitions as usize
+        self.placed.iter().enumerate().any(|(p, &placed)| p < usize::from(self.partitions)
             && placed != self.size)
     }
 
@@ -41,14 +41,14 @@ impl Numbers {
     pub(crate) fn has_no_such_claim(self, w: usize, i: usize) -> bool
         ensures { result ≡ no_such_claim (joined self [] []) w i }
     {
-        (self.workers as usize <= w) | (self.size as usize <= i)
+        (usize::from(self.workers) <= w) | (usize::from(self.size) <= i)
     }
 
     // "a lent table's length is wrong", of those that a place step is lent
     pub(crate) fn is_wrong_for_place(self, newest: usize, versions: usize) -> bool
         ensures { result ≡ wrong_for_place (joined self [] []) newest versions }
     {
-        (newest != self.records as usize) | (versions != 256)
+        (newest != usize::from(self.records)) | (versions != 256)
     }
 
     // The same of those that an advance is lent.
@@ -61,8 +61,8 @@ impl Numbers {
     ) -> bool
         ensures { result ≡ wrong_for_advance (joined self [] []) records newest versions results }
     {
-        (records != self.records as usize)
-            | (newest != self.records as usize)
+        (records != usize::from(self.records))
+            | (newest != usize::from(self.records))
             | (versions != 256)
             | (results != 256)
     }
@@ -71,28 +71,30 @@ impl Numbers {
     pub(crate) fn is_wrong_for_seal(self, records: usize, newest: usize, versions: usize) -> bool
         ensures { result ≡ wrong_for_seal (joined self [] []) records newest versions }
     {
-        (records != self.records as usize) | (newest != self.records as usize) | (versions != 256)
+        (records != usize::from(self.records))
+            | (newest != usize::from(self.records))
+            | (versions != 256)
     }
 
     // The same of those that an opening is lent.
     pub(crate) fn is_wrong_for_opening(self, newest: usize, versions: usize, results: usize) -> bool
         ensures { result ≡ wrong_for_opening (joined self [] []) newest versions results }
     {
-        (newest != self.records as usize) | (versions != 256) | (results != 256)
+        (newest != usize::from(self.records)) | (versions != 256) | (results != 256)
     }
 
     // The slots of the batch: 4n.
     pub(crate) fn slots(self) -> usize
         ensures { result ≡ 4 * self.size }
     {
-        4 * self.size as usize
+        4 * usize::from(self.size)
     }
 
     // "Transaction i of a batch (from 0) has position F + i"; past the last position it is that one.
     pub(crate) fn position_of(self, i: u8) -> u64
         ensures { result ≡ position_by self i }
     {
-        self.next.0.saturating_add(i as u64)
+        self.next.0.saturating_add(u64::from(i))
     }
 }
 

@@ -17,8 +17,8 @@ fn is_not_held(crew: &[Worker], i: usize, row: Row) -> bool
 {
     match row.progress {
         Progress::Executing(w) => {
-            let worker = worker_at(crew, w as usize);
-            !((w < 8) & !workers::is_idle(worker) & (worker.transaction as usize == i))
+            let worker = worker_at(crew, usize::from(w));
+            !((w < 8) & !workers::is_idle(worker) & (usize::from(worker.transaction) == i))
         }
         Progress::Unprocessed | Progress::Complete(_) => false,
     }
@@ -35,7 +35,7 @@ impl Numbers {
             | ((self.workers < 1) | (8 < self.workers))
             | (64 < self.size)
             | (next == 0)
-            | next.checked_add(self.size as u64).is_none()
+            | next.checked_add(u64::from(self.size)).is_none()
             | (next <= self.batch.0)
     }
 
@@ -43,7 +43,7 @@ impl Numbers {
     fn is_wrong_placed(self, p: usize, placed: u8) -> bool
         ensures { result ≡ (ltb self.size placed || (leb self.partitions p && not (eqb placed 0))) }
     {
-        (self.size < placed) | ((self.partitions as usize <= p) & (placed != 0))
+        (self.size < placed) | ((usize::from(self.partitions) <= p) & (placed != 0))
     }
 
     fn has_wrong_placed(self) -> bool
@@ -61,17 +61,17 @@ impl Numbers {
         ensures { result ≡ wrong_among self.workers self.size rows.now w worker }
     {
         !workers::is_idle(worker)
-            && ((self.workers as usize <= w)
+            && ((usize::from(self.workers) <= w)
                 | (self.size <= worker.transaction)
                 | workers::has_count_above(worker)
-                | !single::is_executing_by(row_at(rows, worker.transaction as usize), w))
+                | !single::is_executing_by(row_at(rows, usize::from(worker.transaction)), w))
     }
 
     // The transactions of the batch, and never more than there are.
     pub(crate) fn transactions(self) -> usize
         ensures { result ≡ few_of self.size }
     {
-        self.size.min(64) as usize
+        usize::from(self.size.min(64))
     }
 
     // 14, with what it says of the transactions and the workers.

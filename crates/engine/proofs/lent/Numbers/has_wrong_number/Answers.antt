@@ -5,4 +5,4 @@ use Rattle.engine.proofs.lent.Numbers.has_wrong_number.Goals as goal
 
 pub returns : goal.returns
 unfolding numbers_wrong
-returns c = rw (past_the_end _ _ _ c.checked_add.ensures c.is_none.ensures) refl
+returns c = rw (past_the_end _ _ _ c.checked_add.ensures c.is_none.ensures, c.from.ensures) refl
