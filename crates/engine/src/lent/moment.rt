@@ -9,6 +9,7 @@ ghost use Rattle.engine.specs.Place.{wrong_for_place};
 ghost use Rattle.engine.specs.Seal.{wrong_for_seal};
 
 use crate::lent::{Numbers, alone};
+use crate::tables;
 use terms::NO_END;
 
 // "claim or advance before planning ends or with none open"
@@ -53,8 +54,10 @@ pub(crate) fn is_wrong_for_advance(
 ) -> bool
     ensures { result ≡ wrong_for_advance (joined numbers [] []) records newest versions results }
 {
-    let state = alone(numbers);
-    state.is_wrong_for_advance(records, newest, versions, results)
+    tables::is_not_of(records, usize::from(numbers.records))
+        | tables::is_not_of(newest, usize::from(numbers.records))
+        | tables::is_not_of(versions, 256)
+        | tables::is_not_of(results, 256)
 }
 
 // The same of those that a seal is lent.
