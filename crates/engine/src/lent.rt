@@ -12,7 +12,7 @@ ghost use Rattle.std.specs.Prelude.{◌≡◌, replicate};
 ghost use Rattle.engine.specs.Lent.{unprocessed, joined, numbers_of};
 ghost use Rattle.engine.specs.Workers.{idle_worker};
 
-use crate::{Answer, State, rows, workers};
+use crate::{Answer, Row, State, Worker};
 pub use advancing::advance;
 pub use claiming::claim;
 pub use placing::place;
@@ -60,8 +60,8 @@ pub fn numbers_of(state: State) -> Numbers
 pub(crate) fn alone(numbers: Numbers) -> State
     ensures { result ≡ joined numbers (replicate 64 unprocessed) (replicate 8 idle_worker) }
 {
-    let row = rows::unprocessed();
-    let worker = workers::idle();
+    let row = Row::unprocessed();
+    let worker = Worker::idle();
     let placed = numbers.placed;
     let next = numbers.next;
     let batch = numbers.batch;

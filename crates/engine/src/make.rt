@@ -3,7 +3,7 @@ ghost use Rattle.std.specs.Prelude.{◌≡◌, ◌≤◌};
 ghost use Rattle.engine.specs.Make.{wrong_parameter, make_of};
 ghost use Rattle.engine.specs.States.{unopened};
 
-use crate::{Made, State, rows, workers};
+use crate::{Made, Row, State, Worker};
 use terms::{BatchNumber, Position, Refusal};
 
 fn is_wrong_parameter(n: usize, p: usize, w: usize, start: Position) -> bool
@@ -16,8 +16,8 @@ fn is_wrong_parameter(n: usize, p: usize, w: usize, start: Position) -> bool
 fn fresh(n: u16, p: u8, w: u8, start: u64) -> State
     ensures { result ≡ unopened n p w start }
 {
-    let row = rows::unprocessed();
-    let worker = workers::idle();
+    let row = Row::unprocessed();
+    let worker = Worker::idle();
     State {
         records: n,
         partitions: p,

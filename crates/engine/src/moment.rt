@@ -3,7 +3,7 @@ ghost use Rattle.std.specs.Prelude.{◌≡◌, ◌&&◌, not, ltb, eqb};
 ghost use Rattle.engine.specs.Counting.{some_below};
 ghost use Rattle.engine.specs.Moment.{places_still, not_running, not_planning, row_unfinished, not_sealable};
 
-use crate::{State, rows};
+use crate::State;
 
 fn places_still(placed: u8, partition: usize, size: u8, partitions: u8) -> bool
     ensures { result ≡ (ltb partition partitions && not (eqb placed size)) }
@@ -47,7 +47,7 @@ impl State {
         let mut i: usize = 0;
         while i < 64 {
             let row = self.rows[i];
-            unfinished = unfinished | ((i < self.size as usize) & !rows::is_complete(row));
+            unfinished = unfinished | ((i < self.size as usize) & !row.is_complete());
             i += 1;
         }
         unfinished

@@ -3,7 +3,7 @@ ghost use Rattle.std.specs.Prelude.{◌≡◌, Ok, cond, ltb};
 ghost use Rattle.engine.specs.Advance.{seen_of, unfilled, goes_on, breaks, waits_for, answer_of, value_or, results_of};
 ghost use Rattle.engine.specs.Advance.{completed, with_fill, reads, decides_by, carries, after_fill, fills_in};
 
-use crate::{Answer, Phase, Row, Worker, rows, workers};
+use crate::{Answer, Phase, Row, Worker};
 use counters::{Decision, Outcome};
 use terms::{Position, Refusal, Refused};
 use versions::{Fill, Walked};
@@ -72,8 +72,8 @@ fn breaks() -> Result<Move, Refused>
 fn waits_for(position: u64) -> Move
     ensures { result ≡ waits_for position }
 {
-    let left = Some(rows::unprocessed());
-    unfilled(Some(Position(position)), workers::idle(), left, None)
+    let left = Some(Row::unprocessed());
+    unfilled(Some(Position(position)), Worker::idle(), left, None)
 }
 
 // Value k of so many read, and 0 past them.
@@ -99,9 +99,9 @@ fn results_of(values: [u64; 4], count: u8) -> [u64; 4]
 fn completed(outcome: Outcome, values: [u64; 4], count: u8) -> Move
     ensures { result ≡ completed outcome values count }
 {
-    let left = Some(rows::complete(outcome));
+    let left = Some(Row::complete(outcome));
     let results = Some(results_of(values, count));
-    unfilled(None, workers::idle(), left, results)
+    unfilled(None, Worker::idle(), left, results)
 }
 
 impl Move {
@@ -130,7 +130,7 @@ pub(crate) fn reads(worker: Worker, k: u8, seen: Seen) -> Result<Move, Refused>
     ensures { result ≡ reads worker k seen }
 {
     match seen {
-        Seen::Contents(contents) => Ok(goes_on(workers::with_value(worker, k, contents))),
+        Seen::Contents(contents) => Ok(goes_on(worker.with_value(k, contents))),
         Seen::NotYet(position) => Ok(waits_for(position)),
         Seen::Unsound => breaks(),
     }
@@ -141,13 +141,9 @@ pub(crate) fn decides(worker: Worker, writecount: u8, decision: Decision) -> Mov
     ensures { result ≡ decides_by worker writecount decision }
 {
     if writecount == 0 {
-        completed(
-            decision.outcome,
-            worker.values,
-            workers::count_in(worker.phase),
-        )
+        completed(decision.outcome, worker.values, worker.phase.values_read())
     } else {
-        goes_on(workers::with_decision(worker, decision))
+        goes_on(worker.with_decision(decision))
     }
 }
 
@@ -155,7 +151,7 @@ pub(crate) fn carries(worker: Worker, j: u8, seen: Seen) -> Result<Move, Refused
     ensures { result ≡ carries worker j seen }
 {
     match seen {
-        Seen::Contents(contents) => Ok(goes_on(workers::with_carry(worker, j, contents))),
+        Seen::Contents(contents) => Ok(goes_on(worker.with_carry(j, contents))),
         Seen::NotYet(position) => Ok(waits_for(position)),
         Seen::Unsound => breaks(),
     }
@@ -172,17 +168,16 @@ fn after_fill(
 ) -> Move
     ensures { result ≡ after_fill worker outcome count carries j writecount }
 {
-    let fills = workers::one_more(j);
+    let fills = j.saturating_add(1);
     if writecount <= fills {
         completed(outcome, worker.values, count)
     } else {
-        let phase = Phase::Decided {
+        goes_on(worker.with_phase(Phase::Decided {
             outcome,
             values: count,
             carries,
             fills,
-        };
-        goes_on(workers::with_phase(worker, phase))
+        }))
     }
 }
 
@@ -199,6 +194,7 @@ pub(crate) fn fills(worker: Worker, writecount: u8, j: u8) -> Result<Move, Refus
         return breaks();
     };
     let slot = 4 * usize::from(worker.transaction) + usize::from(j);
+    let contents = worker.contents.get(usize::from(j)).copied().unwrap_or(0);
     let after = after_fill(worker, outcome, values, carries, j, writecount);
-    Ok(after.with_fill(slot, workers::in_four(worker.contents, j)))
+    Ok(after.with_fill(slot, contents))
 }

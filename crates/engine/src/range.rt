@@ -7,7 +7,7 @@ ghost use Rattle.engine.specs.LawsHeld.{wrong_among, held_by, held_in, held_of, 
 ghost use Rattle.engine.specs.Rows.{row};
 ghost use Rattle.engine.specs.declared.Progress.TheVariants.{Unprocessed};
 
-use crate::{Progress, Row, State, Worker, rows, workers};
+use crate::{Progress, Row, State, Worker};
 use terms::NO_END;
 
 // "F + n above 2^64 − 1"
@@ -57,7 +57,7 @@ fn is_wrong_placed(placed: u8, partition: usize, size: u8, partitions: u8) -> bo
 fn row_in(rows: [Row; 64], i: usize) -> Row
     ensures { result ≡ get_or rows i (row Unprocessed) }
 {
-    if i < 64 { rows[i] } else { rows::unprocessed() }
+    if i < 64 { rows[i] } else { Row::unprocessed() }
 }
 
 // "a worker past W not idle; a worker's transaction not below n, or one of its counts above 4; a worker holding a
@@ -65,22 +65,22 @@ fn row_in(rows: [Row; 64], i: usize) -> Row
 fn is_wrong_worker(worker: Worker, w: usize, workers: u8, size: u8, rows: [Row; 64]) -> bool
     ensures { result ≡ wrong_among workers size rows w worker }
 {
-    if workers::is_idle(worker) {
+    if worker.is_idle() {
         return false;
     }
     let transaction = worker.transaction;
-    let row = row_in(rows, workers::index(transaction));
+    let row = row_in(rows, usize::from(transaction));
     (workers as usize <= w)
         | (size <= transaction)
-        | workers::has_count_above(worker)
-        | !rows::is_executing_by(row, w)
+        | worker.has_count_above()
+        | !row.is_executing_by(w)
 }
 
 // The transaction that a worker holds; where it is idle 255, which no batch has.
 fn held_by(worker: Worker) -> u8
     ensures { result ≡ held_by worker }
 {
-    if workers::is_idle(worker) {
+    if worker.is_idle() {
         255
     } else {
         worker.transaction

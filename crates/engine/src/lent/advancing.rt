@@ -9,7 +9,7 @@ use crate::lent::crew::{put_worker, worker_at};
 use crate::lent::transactions::put_row;
 use crate::lent::{Numbers, moment, range};
 use crate::moves::Move;
-use crate::{Answer, Row, Worker, acts, tables, workers};
+use crate::{Answer, Row, Worker, acts, tables};
 use packed::unpack_at;
 use terms::{Refusal, Refused, refuse_if};
 use versions::Version;
@@ -41,7 +41,7 @@ pub(crate) fn consider_advance(
     )?;
     refuse_if(moment::is_not_running(numbers), Refusal::WrongMoment, 0)?;
     refuse_if(usize::from(numbers.workers) <= w, Refusal::NoSuchParty, 0)?;
-    refuse_if(workers::is_idle(worker), Refusal::WorkerBusyOrIdle, 0)?;
+    refuse_if(worker.is_idle(), Refusal::WorkerBusyOrIdle, 0)?;
     refuse_if(
         tables::is_not_of(log.len(), 88 * usize::from(numbers.size)),
         Refusal::WrongLength,

@@ -2,7 +2,7 @@
 ghost use Rattle.std.specs.Prelude.{◌≡◌, ◌<◌, length, set};
 ghost use Rattle.engine.specs.Lent.{worker_of};
 
-use crate::{Worker, workers};
+use crate::Worker;
 
 pub(crate) fn entry(crew: &[Worker], w: usize) -> Worker
     requires { w < length crew.now }
@@ -25,7 +25,7 @@ pub(crate) fn worker_at(crew: &[Worker], w: usize) -> Worker
     if w < crew.len() {
         entry(crew, w)
     } else {
-        workers::idle()
+        Worker::idle()
     }
 }
 

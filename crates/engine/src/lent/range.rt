@@ -12,7 +12,7 @@ ghost use Rattle.engine.specs.Workers.{is_idle, count_above};
 use crate::lent::crew::worker_at;
 use crate::lent::transactions::row_at;
 use crate::lent::{Numbers, alone};
-use crate::{Progress, Row, Worker, rows as single, workers};
+use crate::{Progress, Row, Worker};
 
 pub(crate) fn has_wrong_numbers(numbers: Numbers) -> bool
     ensures { result ≡ (numbers_wrong (joined numbers [] []) || some_below 8 (placed_wrong (joined numbers [] []))) }
@@ -25,7 +25,7 @@ pub(crate) fn has_wrong_numbers(numbers: Numbers) -> bool
 pub(crate) fn held_index(worker: Worker) -> usize
     ensures { result ≡ worker.transaction }
 {
-    workers::index(worker.transaction)
+    usize::from(worker.transaction)
 }
 
 // "a worker past W not idle; a worker's transaction not below n, or one of its counts above 4; a worker holding a
@@ -41,8 +41,8 @@ pub(crate) fn busy_wrong(wrong: bool, numbers: Numbers, w: usize, worker: Worker
     wrong
         | ((numbers.workers as usize <= w)
             | (numbers.size <= worker.transaction)
-            | workers::has_count_above(worker)
-            | !single::is_executing_by(row, w))
+            | worker.has_count_above()
+            | !row.is_executing_by(w))
 }
 
 // The same of any worker, and whether something was wrong before.
@@ -55,7 +55,7 @@ pub(crate) fn worker_wrong(
 ) -> bool
     ensures { result ≡ (wrong || wrong_among numbers.workers numbers.size rows.now w worker) }
 {
-    let idle = workers::is_idle(worker);
+    let idle = worker.is_idle();
     if idle {
         return wrong;
     }
@@ -96,7 +96,7 @@ pub(crate) fn executor(row: Row) -> usize
     let progress = row.progress;
     match progress {
         Progress::Unprocessed => 255,
-        Progress::Executing(w) => workers::index(w),
+        Progress::Executing(w) => usize::from(w),
         Progress::Complete(_) => 255,
     }
 }
@@ -106,7 +106,7 @@ pub(crate) fn unheld(wrong: bool, i: usize, w: usize, worker: Worker) -> bool
     ensures { result ≡ (wrong || not (ltb w 8 && not (is_idle worker) && eqb worker.transaction i)) }
 {
     let held = held_index(worker);
-    wrong | !((w < 8) & !workers::is_idle(worker) & (held == i))
+    wrong | !((w < 8) & !worker.is_idle() & (held == i))
 }
 
 pub(crate) fn row_wrong(crew: &[Worker], wrong: bool, i: usize, row: Row) -> bool

@@ -2,7 +2,7 @@
 ghost use Rattle.std.specs.Prelude.{◌≡◌, ◌<◌, length, set};
 ghost use Rattle.engine.specs.Lent.{row_of};
 
-use crate::{Row, rows as single};
+use crate::Row;
 
 pub(crate) fn entry(rows: &[Row], i: usize) -> Row
     requires { i < length rows.now }
@@ -25,7 +25,7 @@ pub(crate) fn row_at(rows: &[Row], i: usize) -> Row
     if i < rows.len() {
         entry(rows, i)
     } else {
-        single::unprocessed()
+        Row::unprocessed()
     }
 }
 
