@@ -5,7 +5,7 @@ ghost use Rattle.engine.specs.LawsAdvance.{looked_by, move_at};
 
 use crate::acts::Act;
 use crate::moves::{Move, Seen};
-use crate::{State, Stepped, Worker, acts, lent, moves, tables};
+use crate::{State, Stepped, Worker, lent, moves, tables};
 use counters::decide;
 use packed::Transaction;
 use terms::Refused;
@@ -43,7 +43,7 @@ impl Aim {
     {
         let worker = self.worker;
         let meaning = self.meaning;
-        match acts::act_of(worker, meaning) {
+        match worker.next_act(meaning) {
             Act::Read(k) => {
                 let number = in_set(meaning.reads, k);
                 moves::reads(worker, k, self.looked(records, newest, versions, number))

@@ -9,7 +9,7 @@ use crate::lent::crew::{put_worker, worker_at};
 use crate::lent::transactions::put_row;
 use crate::lent::{Numbers, moment, range};
 use crate::moves::Move;
-use crate::{Answer, Row, Worker, acts, tables};
+use crate::{Answer, Row, Worker, tables};
 use packed::unpack_at;
 use terms::{Refusal, Refused, refuse_if};
 use versions::Version;
@@ -54,7 +54,7 @@ pub(crate) fn consider_advance(
     );
     entry.verdict?;
     let meaning = entry.meaning;
-    refuse_if(acts::is_unfit(worker, meaning), Refusal::BrokenTables, 0)?;
+    refuse_if(worker.is_unfit(meaning), Refusal::BrokenTables, 0)?;
     Ok(Aim {
         worker,
         meaning,
