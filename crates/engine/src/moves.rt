@@ -76,23 +76,11 @@ fn waits_for(position: u64) -> Move
     unfilled(Some(Position(position)), Worker::idle(), left, None)
 }
 
-// Value k of so many read, and 0 past them.
-fn value_or(value: u64, k: u8, count: u8) -> u64
-    ensures { result ≡ cond (ltb k count) value 0 }
-{
-    if k < count { value } else { 0 }
-}
-
 // "the values read, then zeros"
 fn results_of(values: [u64; 4], count: u8) -> [u64; 4]
     ensures { result ≡ results_of values count }
 {
-    [
-        value_or(values[0], 0, count),
-        value_or(values[1], 1, count),
-        value_or(values[2], 2, count),
-        value_or(values[3], 3, count),
-    ]
+    std::array::from_fn(|k| if k < usize::from(count) { values[k] } else { 0 })
 }
 
 // "completes the transaction: four result numbers at 4i are the values read, then zeros, and the worker becomes idle"

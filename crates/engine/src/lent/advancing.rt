@@ -64,6 +64,7 @@ pub(crate) fn consider_advance(
 }
 
 // What an advance changes, decided before anything is touched.
+#[tactic(auto, unfolding(crate::specs::LawsLentAdvance::turn_with))]
 pub(crate) fn turn(
     numbers: Numbers,
     wrong: bool,
