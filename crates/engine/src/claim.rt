@@ -4,7 +4,7 @@ ghost use Rattle.engine.specs.Claim.{no_such_claim, claim_of};
 ghost use Rattle.engine.specs.Range.{worker_at};
 ghost use Rattle.engine.specs.States.{with_row, with_worker};
 
-use crate::{Row, State, Stepped, Worker, rows, workers};
+use crate::{Row, State, Stepped, Worker};
 use terms::Refusal;
 
 impl State {
@@ -55,15 +55,15 @@ impl State {
             return self.refused(Refusal::NoSuchParty, 0);
         }
         let worker = self.crew[w];
-        if !workers::is_idle(worker) {
+        if !worker.is_idle() {
             return self.refused(Refusal::WorkerBusyOrIdle, 0);
         }
         let row = self.rows[i];
-        if !rows::is_unprocessed(row) {
+        if !row.is_unprocessed() {
             return self.refused(Refusal::NotUnprocessed, 0);
         }
-        let executing = rows::executing(w as u8);
-        let starting = workers::starting(i as u8);
+        let executing = Row::executing(w as u8);
+        let starting = Worker::starting(i as u8);
         self.rows[i] = executing;
         self.crew[w] = starting;
         self.accepted()

@@ -14,7 +14,7 @@ ghost use Rattle.engine.specs.Range.{placed_by};
 ghost use Rattle.engine.specs.LawsLentPlace.{placed_numbers};
 ghost use Rattle.engine.specs.Workers.{idle_worker};
 
-use crate::{Answer, State, rows, tables, workers};
+use crate::{Answer, Row, State, Worker, tables};
 pub use advancing::advance;
 pub use claiming::claim;
 pub use placing::place;
@@ -86,7 +86,7 @@ pub(crate) fn alone(numbers: Numbers) -> State
         size: numbers.size,
         batch: numbers.batch,
         placed,
-        rows: [rows::unprocessed(); 64],
-        crew: [workers::idle(); 8],
+        rows: [Row::unprocessed(); 64],
+        crew: [Worker::idle(); 8],
     }
 }

@@ -3,7 +3,7 @@ ghost use Rattle.std.specs.Prelude.{◌≡◌};
 ghost use Rattle.engine.specs.Counting.{some_below};
 ghost use Rattle.engine.specs.Moment.{not_running, not_planning, row_unfinished, not_sealable};
 
-use crate::{State, lent, rows};
+use crate::{State, lent};
 
 impl State {
     // "claim or advance before planning ends or with none open"
@@ -27,7 +27,7 @@ impl State {
         let mut i: usize = 0;
         while i < 64 {
             let row = self.rows[i];
-            unfinished = unfinished | ((i < self.size as usize) & !rows::is_complete(row));
+            unfinished = unfinished | ((i < self.size as usize) & !row.is_complete());
             i += 1;
         }
         unfinished

@@ -7,7 +7,7 @@ ghost use Rattle.engine.specs.Open.{wrong_for_opening, wrong_batch_length, each_
 ghost use Rattle.engine.specs.Answers.{is_accepted};
 ghost use Rattle.engine.specs.LawsOpen.{opening_by, opening_of, opened_as};
 
-use crate::{State, Stepped, answers, rows, tables, workers};
+use crate::{Row, State, Stepped, Worker, answers, tables};
 use packed::unpack_at;
 use terms::{NO_END, Refusal, Verdict};
 use versions::{Version, clear};
@@ -129,8 +129,8 @@ impl State {
         let verdict = opening.verdict;
         match verdict {
             Ok(()) => {
-                let row = rows::unprocessed();
-                let worker = workers::idle();
+                let row = Row::unprocessed();
+                let worker = Worker::idle();
                 self.size = opening.size;
                 self.rows = [row; 64];
                 self.crew = [worker; 8];

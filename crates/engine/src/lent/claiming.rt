@@ -7,7 +7,7 @@ ghost use Rattle.engine.specs.LawsLentClaim.{no_claiming, claiming_of};
 use crate::lent::crew::{put_worker, worker_at};
 use crate::lent::transactions::{put_row, row_at};
 use crate::lent::{Numbers, moment, range};
-use crate::{Answer, Row, Worker, rows as single, workers};
+use crate::{Answer, Row, Worker};
 use terms::{Place, Refusal};
 
 // What a claim comes to: its answer; and where it is accepted the transaction with how it stands then, and the worker
@@ -25,8 +25,8 @@ fn refused_claiming(refusal: Refusal, rows: usize, crew: usize) -> Claiming
     ensures { result ≡ no_claiming rows crew refusal }
 {
     let place = Place::of(refusal, 0);
-    let executing = single::unprocessed();
-    let starting = workers::idle();
+    let executing = Row::unprocessed();
+    let starting = Worker::idle();
     Claiming {
         answer: Answer::Refused(refusal, place),
         transaction: rows,
@@ -59,14 +59,14 @@ pub(crate) fn consider_claim(
     if moment::has_no_such_claim(numbers, w, i) {
         return refused_claiming(Refusal::NoSuchParty, rows, crew);
     }
-    if !workers::is_idle(worker) {
+    if !worker.is_idle() {
         return refused_claiming(Refusal::WorkerBusyOrIdle, rows, crew);
     }
-    if !single::is_unprocessed(row) {
+    if !row.is_unprocessed() {
         return refused_claiming(Refusal::NotUnprocessed, rows, crew);
     }
-    let executing = single::executing(w as u8);
-    let starting = workers::starting(i as u8);
+    let executing = Row::executing(w as u8);
+    let starting = Worker::starting(i as u8);
     Claiming {
         answer: Answer::Accepted,
         transaction: i,

@@ -10,7 +10,7 @@ ghost use Rattle.engine.specs.Seal.{seal_of};
 use crate::lent::transactions::row_at;
 use crate::lent::{Counted, Numbers, moment, range};
 use crate::seal::{Sealing, closes, refused_seal};
-use crate::{Answer, Row, Worker, rows as single, tables};
+use crate::{Answer, Row, Worker, tables};
 use terms::{BatchNumber, Position, Refusal};
 use versions::{Version, clear, collect, newest_sound};
 
@@ -18,7 +18,7 @@ use versions::{Version, clear, collect, newest_sound};
 pub(crate) fn still_unfinished(unfinished: bool, row: Row) -> bool
     ensures { result ≡ (unfinished || not (is_complete row)) }
 {
-    unfinished | !single::is_complete(row)
+    unfinished | !row.is_complete()
 }
 
 pub(crate) fn has_unfinished(rows: &[Row], numbers: Numbers) -> bool
