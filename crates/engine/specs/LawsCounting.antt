@@ -65,3 +65,26 @@ none_past low (suc high) test most none =
         ap (λ n. some_below n test) same
     go rest (no before) =
         rw (none high (omega arith) (omega arith)) (rest (omega arith) ∙ or_none (some_below high test))
+
+or_true : (b : Bool) → (b || true) ≡ true
+or_true true = refl
+or_true false = refl
+
+-- a loop that ends at the first number of which a test holds: it is found below the bound;
+pub found_below : (bound : ℕ) (test : ℕ → Bool) (k : ℕ) → k < bound → test k ≡ true → some_below bound test ≡ true
+unfolding some_below
+found_below zero test k below found = absurd (omega (arith, below))
+found_below (suc bound) test k below found = go (found_below bound test k) (dec_lt k bound)
+  where
+    go : (k < bound → test k ≡ true → some_below bound test ≡ true) → Dec (k < bound)
+        → (some_below bound test || test bound) ≡ true
+    go earlier (yes before) = rw (earlier before found) refl
+    go earlier (no last) =
+        let same : k ≡ bound = omega (arith, below) in
+        rw (rw same at found) (or_true (some_below bound test))
+
+-- or the test fails for one number more
+pub none_more : (test : ℕ → Bool) (k : ℕ) → some_below k test ≡ false → test k ≡ false
+    → some_below (k + 1) test ≡ false
+unfolding some_below
+none_more test k before this = rw (add-one k, before, this) refl

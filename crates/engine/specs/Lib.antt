@@ -17,6 +17,7 @@ pub mod LawsLentSeal
 pub mod LawsMake
 pub mod LawsOpen
 pub mod LawsPlace
+pub mod LawsPlan
 pub mod LawsRange
 pub mod LawsRefused
 pub mod LawsSeal

@@ -12,7 +12,7 @@ ghost use Rattle.std.specs.Prelude.{◌≡◌, replicate};
 ghost use Rattle.engine.specs.Lent.{unprocessed, joined, numbers_of};
 ghost use Rattle.engine.specs.Workers.{idle_worker};
 
-use crate::{Answer, State, rows, workers};
+use crate::{Answer, Row, State, Stepped, Worker, rows, workers};
 pub use advancing::advance;
 pub use claiming::claim;
 pub use placing::place;
@@ -36,6 +36,31 @@ pub struct Numbers {
 pub struct Counted {
     pub answer: Answer,
     pub numbers: Numbers,
+}
+
+impl Counted {
+    // The state that a step leaves, put together again with the transactions and the workers.
+    pub(crate) fn joined(self, rows: [Row; 64], crew: [Worker; 8]) -> Stepped
+        ensures { result ≡ record { answer = self.answer; state = joined self.numbers rows crew } }
+    {
+        let numbers = self.numbers;
+        let placed = numbers.placed;
+        let state = State {
+            records: numbers.records,
+            partitions: numbers.partitions,
+            workers: numbers.workers,
+            next: numbers.next,
+            size: numbers.size,
+            batch: numbers.batch,
+            placed,
+            rows,
+            crew,
+        };
+        Stepped {
+            answer: self.answer,
+            state,
+        }
+    }
 }
 
 // The numbers of a state.
