@@ -117,3 +117,26 @@ any_entry test past bound xs many =
     ap (list_any (λ entry. test entry.0 entry.1))
     (sym (take_all bound (enumerate_from 0 xs) (rw (length-enumerate_from 0 xs) (omega (arith, many)))))
     ∙ any_first test past bound xs (λ k more below. absurd (omega (arith, many, more, below)))
+
+or_true : (b : Bool) → (b || true) ≡ true
+or_true true = refl
+or_true false = refl
+
+-- a loop that ends at the first number of which a test holds: it is found below the bound;
+pub found_below : (bound : ℕ) (test : ℕ → Bool) (k : ℕ) → k < bound → test k ≡ true → some_below bound test ≡ true
+unfolding some_below
+found_below zero test k below found = absurd (omega (arith, below))
+found_below (suc bound) test k below found = go (found_below bound test k) (dec_lt k bound)
+  where
+    go : (k < bound → test k ≡ true → some_below bound test ≡ true) → Dec (k < bound)
+        → (some_below bound test || test bound) ≡ true
+    go earlier (yes before) = rw (earlier before found) refl
+    go earlier (no last) =
+        let same : k ≡ bound = omega (arith, below) in
+        rw (rw same at found) (or_true (some_below bound test))
+
+-- or the test fails for one number more
+pub none_more : (test : ℕ → Bool) (k : ℕ) → some_below k test ≡ false → test k ≡ false
+    → some_below (k + 1) test ≡ false
+unfolding some_below
+none_more test k before this = rw (add-one k, before, this) refl

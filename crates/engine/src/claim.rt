@@ -4,8 +4,7 @@ ghost use Rattle.engine.specs.Claim.{no_such_claim, claim_of};
 ghost use Rattle.engine.specs.Range.{worker_at};
 ghost use Rattle.engine.specs.States.{with_row, with_worker};
 
-use crate::{Row, State, Stepped, Worker};
-use terms::Refusal;
+use crate::{Row, State, Stepped, Worker, lent};
 
 impl State {
     // Transaction i goes on as given; past the last nothing changes.
@@ -45,27 +44,11 @@ impl State {
     pub fn claim(mut self, w: usize, i: usize) -> Stepped
         ensures { result ≡ claim_of self w i }
     {
-        if self.is_out_of_range() {
-            return self.refused(Refusal::StateOutOfRange, 0);
+        let numbers = lent::numbers_of(self);
+        let answer = lent::claim(&mut self.rows, &mut self.crew, numbers, w, i);
+        Stepped {
+            answer,
+            state: self,
         }
-        if self.is_not_running() {
-            return self.refused(Refusal::WrongMoment, 0);
-        }
-        if self.has_no_such_claim(w, i) {
-            return self.refused(Refusal::NoSuchParty, 0);
-        }
-        let worker = self.crew[w];
-        if !worker.is_idle() {
-            return self.refused(Refusal::WorkerBusyOrIdle, 0);
-        }
-        let row = self.rows[i];
-        if !row.is_unprocessed() {
-            return self.refused(Refusal::NotUnprocessed, 0);
-        }
-        let executing = Row::executing(w as u8);
-        let starting = Worker::starting(i as u8);
-        self.rows[i] = executing;
-        self.crew[w] = starting;
-        self.accepted()
     }
 }

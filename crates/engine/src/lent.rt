@@ -14,7 +14,7 @@ ghost use Rattle.engine.specs.Range.{placed_by};
 ghost use Rattle.engine.specs.LawsLentPlace.{placed_numbers};
 ghost use Rattle.engine.specs.Workers.{idle_worker};
 
-use crate::{Answer, Row, State, Worker, tables};
+use crate::{Answer, Row, State, Stepped, Worker, tables};
 pub use advancing::advance;
 pub use claiming::claim;
 pub use placing::place;
@@ -55,6 +55,31 @@ impl Numbers {
 pub struct Counted {
     pub answer: Answer,
     pub numbers: Numbers,
+}
+
+impl Counted {
+    // The state that a step leaves, put together again with the transactions and the workers.
+    pub(crate) fn joined(self, rows: [Row; 64], crew: [Worker; 8]) -> Stepped
+        ensures { result ≡ record { answer = self.answer; state = joined self.numbers rows crew } }
+    {
+        let numbers = self.numbers;
+        let placed = numbers.placed;
+        let state = State {
+            records: numbers.records,
+            partitions: numbers.partitions,
+            workers: numbers.workers,
+            next: numbers.next,
+            size: numbers.size,
+            batch: numbers.batch,
+            placed,
+            rows,
+            crew,
+        };
+        Stepped {
+            answer: self.answer,
+            state,
+        }
+    }
 }
 
 // The numbers of a state.
