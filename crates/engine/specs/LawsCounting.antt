@@ -1,4 +1,4 @@
--- Loops and chains that join a test over the numbers below a bound.
+-- A test over the numbers below a bound, and the loops and chains that ask it.
 use Rattle.std.specs.Prelude.{ℕ, zero, suc, ◌+◌, ◌≤◌, ◌<◌, Bool, true, false, ◌||◌, ◌≡◌, refl}
 use Rattle.std.specs.Prelude.{List, length, get_or, take}
 use Rattle.std.specs.List.{enumerate_from, list_any}
@@ -9,24 +9,6 @@ use Rattle.std.proofs.lemmas.List.Folds.{list_any_more}
 use Rattle.std.proofs.lemmas.List.FromFn.{length-enumerate_from, get_or-enumerate_from}
 use Rattle.packed.specs.LawsForm.{not_left, not_right}
 use Rattle.engine.specs.Counting.{some_below}
-
--- before the loop no number is tested;
-pub none_tested : (test : ℕ → Bool) → false ≡ some_below 0 test
-unfolding some_below
-none_tested test = refl
-
--- a turn tests one more;
-pub one_tested : {so_far answer : Bool} (test : ℕ → Bool) (k : ℕ) → so_far ≡ some_below k test → answer ≡ test k
-    → (so_far || answer) ≡ some_below (k + 1) test
-unfolding some_below
-one_tested test k tested told = rw (add-one k, tested, told)
-
--- after it all are.
-pub all_tested : {so_far : Bool} (test : ℕ → Bool) (bound k : ℕ) → so_far ≡ some_below k test → k ≤ bound → bound ≤ k
-    → so_far ≡ some_below bound test
-all_tested test bound k tested most least =
-    let all : k ≡ bound = omega arith in
-    tested ∙ ap (λ n. some_below n test) all
 
 -- a test that holds of no number below the bound fails for each of them
 pub none_below : (bound : ℕ) (test : ℕ → Bool) → some_below bound test ≡ false → (k : ℕ) → k < bound → test k ≡ false

@@ -28,7 +28,7 @@ impl Aim {
     {
         let from = tables::newest_of(newest, number);
         let walked = walk(versions, from, self.bound, self.position);
-        moves::seen_by(walked, tables::number_at(records, number))
+        moves::seen_by(walked, records.get(number).copied().unwrap_or(0))
     }
 
     // "One of: read the next declared read; with none left, decide; carry the next carried write; fill the next write":
@@ -83,10 +83,10 @@ pub(crate) fn give_results(results: &mut [u64], transaction: u8, four: Option<[u
 {
     if let Some(four) = four {
         let at = 4 * usize::from(transaction);
-        tables::put_number(results, at, four[0]);
-        tables::put_number(results, at + 1, four[1]);
-        tables::put_number(results, at + 2, four[2]);
-        tables::put_number(results, at + 3, four[3]);
+        tables::put(results, at, four[0]);
+        tables::put(results, at + 1, four[1]);
+        tables::put(results, at + 2, four[2]);
+        tables::put(results, at + 3, four[3]);
     }
 }
 

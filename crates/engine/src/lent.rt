@@ -1,18 +1,16 @@
 // The steps on a state whose transactions and workers are lent, so that a step copies no more than it changes.
 pub(crate) mod advancing;
 pub(crate) mod claiming;
-pub(crate) mod crew;
+pub(crate) mod entries;
 pub(crate) mod moment;
 pub(crate) mod placing;
 pub(crate) mod range;
 pub(crate) mod sealing;
-pub(crate) mod transactions;
 
-ghost use Rattle.std.specs.Prelude.{◌≡◌, [], replicate};
-ghost use Rattle.engine.specs.Lent.{unprocessed, joined, numbers_of};
+ghost use Rattle.std.specs.Prelude.{◌≡◌, []};
+ghost use Rattle.engine.specs.Lent.{joined, numbers_of};
 ghost use Rattle.engine.specs.Range.{placed_by};
 ghost use Rattle.engine.specs.LawsLentPlace.{placed_numbers};
-ghost use Rattle.engine.specs.Workers.{idle_worker};
 
 use crate::{Answer, Row, State, Stepped, Worker, tables};
 pub use advancing::advance;
@@ -95,23 +93,5 @@ pub fn numbers_of(state: State) -> Numbers
         size: state.size,
         batch: state.batch,
         placed,
-    }
-}
-
-// The numbers with transactions and workers that nobody looks at.
-pub(crate) fn alone(numbers: Numbers) -> State
-    ensures { result ≡ joined numbers (replicate 64 unprocessed) (replicate 8 idle_worker) }
-{
-    let placed = numbers.placed;
-    State {
-        records: numbers.records,
-        partitions: numbers.partitions,
-        workers: numbers.workers,
-        next: numbers.next,
-        size: numbers.size,
-        batch: numbers.batch,
-        placed,
-        rows: [Row::unprocessed(); 64],
-        crew: [Worker::idle(); 8],
     }
 }

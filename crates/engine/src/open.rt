@@ -1,14 +1,13 @@
 // Opening a batch.
-ghost use Rattle.std.specs.Prelude.{◌≡◌, ◌+◌, ltb, not};
-ghost use Rattle.terms.specs.Reserved.{no_end};
+ghost use Rattle.std.specs.Prelude.{◌≡◌, not};
 ghost use Rattle.engine.specs.Moment.{no_batch};
-ghost use Rattle.engine.specs.Open.{wrong_for_opening, wrong_batch_length, each_in_turn, opened, open_of};
+ghost use Rattle.engine.specs.Open.{wrong_batch_length, each_in_turn, opened, open_of};
 ghost use Rattle.engine.specs.LawsOpen.{open_plan};
 
 use crate::lent::{self, range};
-use crate::{Row, State, Stepped, Worker, tables};
+use crate::{Row, State, Stepped, Worker};
 use packed::unpack_at;
-use terms::{NO_END, NO_SLOT, Refusal, Refused, Verdict, refuse_if};
+use terms::{NO_SLOT, Refusal, Refused, Verdict, refuse_if};
 use versions::{Version, clear};
 
 // "opening: length 0, above 5,632, or no multiple of 88"
@@ -16,13 +15,6 @@ fn is_wrong_batch_length(bytes: usize) -> bool
     ensures { result ≡ wrong_batch_length bytes }
 {
     (bytes == 0) | (5632 < bytes) | (bytes % 88 != 0)
-}
-
-// "F + n above 2^64 − 1"
-fn runs_out(next: u64, count: usize) -> bool
-    ensures { result ≡ ltb no_end (next + count) }
-{
-    NO_END - next < count as u64
 }
 
 // "each transaction in turn 4 to 8"
@@ -37,15 +29,6 @@ fn each_in_turn(log: &[u8], n: usize, count: usize) -> Verdict
 }
 
 impl State {
-    // "a lent table's length is wrong", of those that an opening is lent
-    fn is_wrong_for_opening(&self, newest: usize, versions: usize, results: usize) -> bool
-        ensures { result ≡ wrong_for_opening self.now newest versions results }
-    {
-        tables::is_not_of(newest, self.records as usize)
-            | tables::is_not_of(versions, 256)
-            | tables::is_not_of(results, 256)
-    }
-
     // "n (0 when no batch is open)"
     fn is_open(&self) -> bool
         ensures { result ≡ not (no_batch self.now) }
@@ -65,19 +48,15 @@ impl State {
     ) -> Result<u8, Refused>
         ensures { result ≡ open_plan self.now log.now newest versions results }
     {
-        let wrong_length = self.is_wrong_for_opening(newest, versions, results);
-        refuse_if(wrong_length, Refusal::WrongParameter, 0)?;
         let numbers = lent::numbers_of(*self);
+        let wrong_length = numbers.is_wrong_for_opening(newest, versions, results);
+        refuse_if(wrong_length, Refusal::WrongParameter, 0)?;
         let wrong = range::are_wrong(&self.rows, &self.crew, numbers);
-        refuse_if(
-            range::is_out_of_range(numbers, wrong),
-            Refusal::StateOutOfRange,
-            0,
-        )?;
+        refuse_if(numbers.is_out_of_range(wrong), Refusal::StateOutOfRange, 0)?;
         refuse_if(self.is_open(), Refusal::WrongMoment, 0)?;
         refuse_if(is_wrong_batch_length(log.len()), Refusal::WrongLength, 0)?;
         let count = log.len() / 88;
-        refuse_if(runs_out(self.next.0, count), Refusal::PositionsRunOut, 0)?;
+        refuse_if(numbers.runs_out(count), Refusal::PositionsRunOut, 0)?;
         each_in_turn(log, self.records as usize, count)?;
         Ok(count as u8)
     }

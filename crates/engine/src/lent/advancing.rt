@@ -5,9 +5,8 @@ ghost use Rattle.engine.specs.Lent.{joined};
 ghost use Rattle.engine.specs.LawsLentAdvance.{aim_by, turn_with, row_left};
 
 use crate::advance::{Aim, fill_one, give_results};
-use crate::lent::crew::{put_worker, worker_at};
-use crate::lent::transactions::put_row;
-use crate::lent::{Numbers, moment, range};
+use crate::lent::entries::worker_at;
+use crate::lent::{Numbers, range};
 use crate::moves::Move;
 use crate::{Answer, Row, Worker, tables};
 use packed::unpack_at;
@@ -30,20 +29,16 @@ pub(crate) fn consider_advance(
     ensures { result ≡ aim_by wrong numbers w worker log.now newest records versions results }
 {
     refuse_if(
-        moment::is_wrong_for_advance(numbers, records, newest, versions, results),
+        numbers.is_wrong_for_advance(records, newest, versions, results),
         Refusal::WrongParameter,
         0,
     )?;
-    refuse_if(
-        range::is_out_of_range(numbers, wrong),
-        Refusal::StateOutOfRange,
-        0,
-    )?;
-    refuse_if(moment::is_not_running(numbers), Refusal::WrongMoment, 0)?;
+    refuse_if(numbers.is_out_of_range(wrong), Refusal::StateOutOfRange, 0)?;
+    refuse_if(numbers.is_not_running(), Refusal::WrongMoment, 0)?;
     refuse_if(usize::from(numbers.workers) <= w, Refusal::NoSuchParty, 0)?;
     refuse_if(worker.is_idle(), Refusal::WorkerBusyOrIdle, 0)?;
     refuse_if(
-        tables::is_not_of(log.len(), 88 * usize::from(numbers.size)),
+        log.len() != 88 * usize::from(numbers.size),
         Refusal::WrongLength,
         0,
     )?;
@@ -58,8 +53,8 @@ pub(crate) fn consider_advance(
     Ok(Aim {
         worker,
         meaning,
-        bound: moment::slots(numbers),
-        position: moment::position_of(numbers, worker.transaction),
+        bound: numbers.slots(),
+        position: numbers.position_of(worker.transaction),
     })
 }
 
@@ -99,7 +94,7 @@ pub(crate) fn leave(rows: &mut [Row], transaction: u8, left: Option<Row>)
     ensures { rows.new ≡ row_left rows.old transaction left }
 {
     if let Some(row) = left {
-        put_row(rows, usize::from(transaction), row);
+        tables::put(rows, usize::from(transaction), row);
     }
 }
 
@@ -147,7 +142,7 @@ pub fn advance(
     match turn {
         Ok(step) => {
             leave(rows, worker.transaction, step.left);
-            put_worker(crew, party, step.worker);
+            tables::put(crew, party, step.worker);
             fill_one(versions, step.fill);
             give_results(results, worker.transaction, step.results);
             step.answer()

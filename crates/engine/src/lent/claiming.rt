@@ -4,10 +4,9 @@ ghost use Rattle.engine.specs.Claim.{claim_of};
 ghost use Rattle.engine.specs.Lent.{joined};
 ghost use Rattle.engine.specs.LawsClaim.{claim_plan};
 
-use crate::lent::crew::{put_worker, worker_at};
-use crate::lent::transactions::{put_row, row_at};
-use crate::lent::{Numbers, moment, range};
-use crate::{Answer, Row, Worker};
+use crate::lent::entries::{row_at, worker_at};
+use crate::lent::{Numbers, range};
+use crate::{Answer, Row, Worker, tables};
 use terms::{Refusal, Refused, refuse_if};
 
 // What an accepted claim comes to: how the transaction and the worker go on.
@@ -29,17 +28,9 @@ pub(crate) fn consider_claim(
     ensures { result ≡ claim_plan (joined numbers rows.now crew.now) w i }
 {
     let wrong = range::are_wrong(rows, crew, numbers);
-    refuse_if(
-        range::is_out_of_range(numbers, wrong),
-        Refusal::StateOutOfRange,
-        0,
-    )?;
-    refuse_if(moment::is_not_running(numbers), Refusal::WrongMoment, 0)?;
-    refuse_if(
-        moment::has_no_such_claim(numbers, w, i),
-        Refusal::NoSuchParty,
-        0,
-    )?;
+    refuse_if(numbers.is_out_of_range(wrong), Refusal::StateOutOfRange, 0)?;
+    refuse_if(numbers.is_not_running(), Refusal::WrongMoment, 0)?;
+    refuse_if(numbers.has_no_such_claim(w, i), Refusal::NoSuchParty, 0)?;
     refuse_if(!worker_at(crew, w).is_idle(), Refusal::WorkerBusyOrIdle, 0)?;
     refuse_if(
         !row_at(rows, i).is_unprocessed(),
@@ -67,8 +58,8 @@ pub fn claim(
 {
     match consider_claim(rows, crew, numbers, party, number) {
         Ok(plan) => {
-            put_row(rows, number, plan.executing);
-            put_worker(crew, party, plan.starting);
+            tables::put(rows, number, plan.executing);
+            tables::put(crew, party, plan.starting);
             Answer::Accepted
         }
         Err(why) => why.into(),

@@ -34,7 +34,7 @@ returns-in-Ok c =
             ∙ ap (λ move. rows_by move rows i) turn
             ∙ advanced_rows numbers rows crew party log records newest versions results,
         (
-          c.put_worker.ensures
+          c.put.ensures
               ∙ ap (λ move. crew_by move crew party) turn
               ∙ advanced_crew numbers rows crew party log records newest versions results,
           (

@@ -6,7 +6,7 @@ pub returns-in-Ok : goal.returns-in-Ok
 returns-in-Ok c =
     let a = c.args in
     let told = claim_same (joined a.numbers a.rows.now a.crew.now) a.party a.number in
-    rw (c.put_row.ensures, c.put_worker.ensures) (rw (← c.in-Ok.ensures) at told)
+    rw (c.put.ensures, c.put-in-Ok.ensures) (rw (← c.in-Ok.ensures) at told)
 
 pub returns-in-Err : goal.returns-in-Err
 returns-in-Err c =
