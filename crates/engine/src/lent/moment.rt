@@ -1,5 +1,5 @@
 // Refusal 9, "wrong moment", and the other checks that ask of the numbers alone.
-ghost use Rattle.std.specs.Prelude.{◌≡◌, [], ◌*◌};
+ghost use Rattle.std.specs.Prelude.{◌≡◌, ◌&&◌, [], ◌*◌, not, ltb, eqb};
 ghost use Rattle.engine.specs.Advance.{wrong_for_advance};
 ghost use Rattle.engine.specs.Claim.{no_such_claim};
 ghost use Rattle.engine.specs.Counting.{some_below};
@@ -13,12 +13,21 @@ ghost use Rattle.engine.specs.Seal.{wrong_for_seal};
 use crate::lent::Numbers;
 
 impl Numbers {
+    // A partition that has placed so many has not placed all.
+    fn places_still(self, p: usize, placed: u8) -> bool
+        ensures { result ≡ (ltb p self.partitions && not (eqb placed self.size)) }
+    {
+        (p < usize::from(self.partitions)) & (placed != self.size)
+    }
+
     // "Planning lasts until every partition has placed all n."
     fn is_planning(self) -> bool
         ensures { result ≡ some_below 8 (places_still (joined self [] [])) }
     {
-        self.placed.iter().enumerate().any(|(p, &placed)| p < usize::from(self.partitions)
-            && placed != self.size)
+        self.placed
+            .iter()
+            .enumerate()
+            .any(|(p, &placed)| self.places_still(p, placed))
     }
 
     // "claim or advance before planning ends or with none open"
