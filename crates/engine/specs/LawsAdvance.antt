@@ -1,5 +1,5 @@
 -- Laws of advancing: the way that the code goes.
-use Rattle.std.specs.Prelude.{ℕ, List, Result, Ok, Err, get_or}
+use Rattle.std.specs.Prelude.{ℕ, zero, suc, ◌+◌, List, Result, Ok, Err, get_or, set}
 use Rattle.terms.specs.Refusals.{Verdict}
 use Rattle.terms.specs.declared.refusal.Refused.{Refused}
 use Rattle.versions.specs.Chain.{walk_of}
@@ -29,3 +29,8 @@ aim_when (Err why) aim = Err why
 abbrev pub move_when : Result Aim Refused → List ℕ → List ℕ → List Version → Result Move Refused
 move_when (Ok aim) records newest versions = move_at aim records newest versions
 move_when (Err why) records newest versions = Err why
+
+-- so many of the four result numbers put
+abbrev pub put_some : List ℕ → ℕ → List ℕ → ℕ → List ℕ
+put_some results at values zero = results
+put_some results at values (suc k) = set (put_some results at values k) (at + k) (get_or values k 0)
