@@ -1,6 +1,6 @@
 -- Laws of advancing with lent transactions and workers: the way that the code goes.
-use Rattle.std.specs.Prelude.{ℕ, zero, suc, ◌*◌, Bool, true, false, ◌||◌, Option, Some, None, Result, Ok, Err}
-use Rattle.std.specs.Prelude.{List, [], ◌∷◌, ◌≡◌, refl, leb, length, get_or, set}
+use Rattle.std.specs.Prelude.{ℕ, zero, suc, ◌*◌, Bool, true, false, ◌||◌, Result}
+use Rattle.std.specs.Prelude.{List, [], ◌∷◌, ◌≡◌, refl, leb, length, get_or}
 use Rattle.std.proofs.Common.{ap, ◌∙◌, arith, leb-false}
 use Rattle.terms.specs.Refusals.{refuse_if, Verdict}
 use Rattle.terms.specs.declared.refusal.Refusal.TheVariants.{
@@ -13,24 +13,21 @@ use Rattle.terms.specs.declared.refusal.Refusal.TheVariants.{
 }
 use Rattle.terms.specs.declared.refusal.Refused.{Refused}
 use Rattle.versions.specs.declared.Version.{Version}
-use Rattle.engine.specs.Advance.{Advanced, wrong_for_advance, work_fits, answer_of, with_filled, with_results}
-use Rattle.engine.specs.Advance.{advance_verdict, move_of, with_left, carried_out, advanced_when, advance_of}
+use Rattle.engine.specs.Advance.{wrong_for_advance, work_fits}
+use Rattle.engine.specs.Advance.{advance_verdict, advance_of}
 use Rattle.engine.specs.Counting.{some_below}
-use Rattle.engine.specs.LawsAdvance.{aim_when, move_when}
+use Rattle.engine.specs.LawsAdvance.{aim_at, aim_when, move_when, answered, rows_by, crew_by, versions_by, results_by, decided}
+use Rattle.engine.specs.LawsAdvance.{advance_answer, advance_rows, advance_crew, advance_versions, advance_results}
 use Rattle.engine.specs.LawsLent.{out_of_range_by, range_told, position_by, position_within}
 use Rattle.engine.specs.LawsRange.{in_range, holds_below}
-use Rattle.engine.specs.Lent.{worker_of, joined, numbers_of}
+use Rattle.engine.specs.Lent.{worker_of, joined}
 use Rattle.engine.specs.Moment.{not_running}
-use Rattle.engine.specs.Place.{meaning_at, position_of}
+use Rattle.engine.specs.Place.{position_of}
 use Rattle.engine.specs.Range.{no_worker, worker_at, worker_wrong, row_wrong, out_of_range}
-use Rattle.engine.specs.States.{with_worker}
 use Rattle.engine.specs.Tables.{not_of}
 use Rattle.engine.specs.Workers.{is_idle}
-use Rattle.engine.specs.declared.Answer.{Answer}
-use Rattle.engine.specs.declared.Answer.TheVariants.{Refused as RefusedBy}
 use Rattle.engine.specs.declared.Row.{Row}
 use Rattle.engine.specs.declared.State.{State}
-use Rattle.engine.specs.declared.Stepped.{Stepped}
 use Rattle.engine.specs.declared.Worker.{Worker}
 use Rattle.engine.specs.declared.advance.Aim.{Aim}
 use Rattle.engine.specs.declared.lent.Numbers.{Numbers}
@@ -45,15 +42,6 @@ verdict_by out s w worker log records newest versions results =
     (refuse_if (leb s.workers w) NoSuchParty 0
     (refuse_if (is_idle worker) WorkerBusyOrIdle 0
     (refuse_if (not_of (length log) (88 * s.size)) WrongLength 0 (work_fits s worker log))))))
-
-abbrev pub aim_at : State → Worker → List ℕ → ℕ → Aim
-aim_at s worker log position =
-    record {
-      worker = worker;
-      meaning = meaning_at s log worker.transaction;
-      bound = 4 * s.size;
-      position = position;
-    }
 
 abbrev pub aim_by : Bool → Numbers → ℕ → Worker → List ℕ → ℕ → ℕ → ℕ → ℕ → Result Aim Refused
 aim_by wrong numbers w worker log newest records versions results =
@@ -75,31 +63,6 @@ pub turn_with_lem : (wrong : Bool) (numbers : Numbers) (w : ℕ) (worker : Worke
 unfolding turn_with
 turn_with_lem wrong numbers w worker log records newest versions results = refl
 
--- ---- what a step answers, and the transactions and workers after it
-abbrev pub answered : Result Move Refused → Answer
-answered (Ok move) = answer_of move.waits
-answered (Err why) = RefusedBy why.refusal why.place
-
-abbrev pub row_left : List Row → ℕ → Option Row → List Row
-row_left rows i None = rows
-row_left rows i (Some row) = set rows i row
-
-abbrev pub rows_by : Result Move Refused → List Row → ℕ → List Row
-rows_by (Ok move) rows i = row_left rows i move.left
-rows_by (Err why) rows i = rows
-
-abbrev pub crew_by : Result Move Refused → List Worker → ℕ → List Worker
-crew_by (Ok move) crew w = set crew w move.worker
-crew_by (Err why) crew w = crew
-
-abbrev pub versions_by : Result Move Refused → List Version → List Version
-versions_by (Ok move) versions = with_filled versions move.fill
-versions_by (Err why) versions = versions
-
-abbrev pub results_by : Result Move Refused → List ℕ → ℕ → List ℕ
-results_by (Ok move) results i = with_results results (4 * i) move.results
-results_by (Err why) results i = results
-
 -- ---- that is the definition
 module _ (numbers : Numbers) (rows : List Row) (crew : List Worker) (w : ℕ) (log records newest : List ℕ)
     (versions : List Version) (results : List ℕ) where
@@ -118,11 +81,9 @@ module _ (numbers : Numbers) (rows : List Row) (crew : List Worker) (w : ℕ) (l
       (refuse_if e WorkerBusyOrIdle 0
       (refuse_if f WrongLength 0 rest)))))
 
-  -- what comes of a verdict on a worker that has a position
-  abbrev comes_to : Verdict → Worker → ℕ → Advanced
-  comes_to v worker position =
-      carried_out (move_when (aim_when v (aim_at stood worker log position)) records newest versions) stood w
-      worker.transaction versions results
+  -- what the advance of a worker with a position changes, under a verdict
+  abbrev move_under : Verdict → Worker → ℕ → Result Move Refused
+  move_under v worker position = move_when (aim_when v (aim_at stood worker log position)) records newest versions
 
   -- a busy worker's transaction has its position
   placed_at : out_of_range stood ≡ false → leb numbers.workers w ≡ false → is_idle mine ≡ false
@@ -135,9 +96,9 @@ module _ (numbers : Numbers) (rows : List Row) (crew : List Worker) (w : ℕ) (l
 
   -- past the last worker lies an idle one, whatever its values
   same_worker : (a b c d f : Bool) (own : List Worker) (k : ℕ)
-      → comes_to (chain a b c d (is_idle (worker_of own k)) f (work_fits stood (worker_of own k) log))
+      → move_under (chain a b c d (is_idle (worker_of own k)) f (work_fits stood (worker_of own k) log))
       (worker_of own k) (position_by numbers (worker_of own k).transaction)
-      ≡ comes_to (chain a b c d (is_idle (get_or own k no_worker)) f (work_fits stood (get_or own k no_worker) log))
+      ≡ move_under (chain a b c d (is_idle (get_or own k no_worker)) f (work_fits stood (get_or own k no_worker) log))
       (get_or own k no_worker) (position_by numbers (get_or own k no_worker).transaction)
   same_worker true b c d f [] k = refl
   same_worker false true c d f [] k = refl
@@ -147,9 +108,15 @@ module _ (numbers : Numbers) (rows : List Row) (crew : List Worker) (w : ℕ) (l
   same_worker a b c d f (worker ∷ own) zero = refl
   same_worker a b c d f (worker ∷ own) (suc k) = same_worker a b c d f own k
 
+  same_transaction : (own : List Worker) (k : ℕ)
+      → (worker_of own k).transaction ≡ (get_or own k no_worker).transaction
+  same_transaction [] k = refl
+  same_transaction (worker ∷ own) zero = refl
+  same_transaction (worker ∷ own) (suc k) = same_transaction own k
+
   same_position : (a b c d e f : Bool) → out_of_range stood ≡ b → leb numbers.workers w ≡ d → is_idle mine ≡ e
-      → comes_to (chain a b c d e f (work_fits stood mine log)) mine (position_by numbers mine.transaction)
-      ≡ comes_to (chain a b c d e f (work_fits stood mine log)) mine (position_of stood mine.transaction)
+      → move_under (chain a b c d e f (work_fits stood mine log)) mine (position_by numbers mine.transaction)
+      ≡ move_under (chain a b c d e f (work_fits stood mine log)) mine (position_of stood mine.transaction)
   same_position true b c d e f inside there busy = refl
   same_position false true c d e f inside there busy = refl
   same_position false false true d e f inside there busy = refl
@@ -157,114 +124,38 @@ module _ (numbers : Numbers) (rows : List Row) (crew : List Worker) (w : ℕ) (l
   same_position false false false false true f inside there busy = refl
   same_position false false false false false true inside there busy = refl
   same_position false false false false false false inside there busy =
-      ap (comes_to (work_fits stood mine log) mine) (placed_at inside there busy)
-
-  -- and an advance is what comes of the definition's verdict
-  comes_of : (v : Verdict) → comes_to v mine (position_of stood mine.transaction)
-      ≡ advanced_when v stood w log records newest versions results
-  comes_of (Ok tt) = refl
-  comes_of (Err why) = refl
+      ap (move_under (work_fits stood mine log) mine) (placed_at inside there busy)
 
   abbrev turn : Result Move Refused
   turn =
       turn_with (some_below 8 (worker_wrong stood) || some_below 64 (row_wrong stood)) numbers w (worker_of crew w) log
       records newest versions (length results)
 
-  turn_is : carried_out turn stood w (worker_of crew w).transaction versions results
-      ≡ advance_of stood w log records newest versions results
-  unfolding advance_verdict advance_of turn_with not_running
-  turn_is =
+  turn_same : turn ≡ decided stood w log records newest versions results
+  unfolding advance_verdict turn_with not_running
+  turn_same =
       let tables = wrong_for_advance stood (length records) (length newest) (length versions) (length results) in
       let bytes = not_of (length log) (88 * numbers.size) in
       rw (range_told numbers rows crew)
       (same_worker tables (out_of_range stood) (not_running stood) (leb numbers.workers w) bytes crew w
       ∙ same_position tables (out_of_range stood) (not_running stood) (leb numbers.workers w) (is_idle mine) bytes
-      refl refl refl
-      ∙ comes_of (advance_verdict stood w log (length records) (length newest) (length versions) (length results)))
-
-  abbrev whole : Result Move Refused → Advanced
-  whole move = carried_out move stood w (worker_of crew w).transaction versions results
+      refl refl refl)
 
   pub advanced_answer : answered turn ≡ (advance_of stood w log records newest versions results).stepped.answer
-  advanced_answer = go turn ∙ ap (λ z. z.stepped.answer) turn_is
-    where
-      go : (move : Result Move Refused) → answered move ≡ (whole move).stepped.answer
-      go (Ok move) = refl
-      go (Err why) = refl
+  advanced_answer = ap answered turn_same ∙ advance_answer stood w log records newest versions results
 
   pub advanced_rows : rows_by turn rows (worker_of crew w).transaction
       ≡ (advance_of stood w log records newest versions results).stepped.state.rows
-  advanced_rows = go turn ∙ ap (λ z. z.stepped.state.rows) turn_is
-    where
-      left : (row : Option Row) (i : ℕ) → row_left rows i row ≡ (with_left stood i row).rows
-      left None i = refl
-      left (Some row) i = refl
-
-      go : (move : Result Move Refused)
-          → rows_by move rows (worker_of crew w).transaction ≡ (whole move).stepped.state.rows
-      go (Ok move) = left move.left (worker_of crew w).transaction
-      go (Err why) = refl
+  advanced_rows =
+      rw (turn_same, same_transaction crew w) (advance_rows stood w log records newest versions results)
 
   pub advanced_crew : crew_by turn crew w ≡ (advance_of stood w log records newest versions results).stepped.state.crew
-  advanced_crew = go turn ∙ ap (λ z. z.stepped.state.crew) turn_is
-    where
-      left : (row : Option Row) (i : ℕ) → crew ≡ (with_left stood i row).crew
-      left None i = refl
-      left (Some row) i = refl
-
-      go : (move : Result Move Refused) → crew_by move crew w ≡ (whole move).stepped.state.crew
-      go (Ok move) = ap (λ own. set own w move.worker) (left move.left (worker_of crew w).transaction)
-      go (Err why) = refl
+  advanced_crew = rw turn_same (advance_crew stood w log records newest versions results)
 
   pub advanced_versions : versions_by turn versions ≡ (advance_of stood w log records newest versions results).versions
-  advanced_versions = go turn ∙ ap (λ z. z.versions) turn_is
-    where
-      go : (move : Result Move Refused) → versions_by move versions ≡ (whole move).versions
-      go (Ok move) = refl
-      go (Err why) = refl
+  advanced_versions = rw turn_same (advance_versions stood w log records newest versions results)
 
   pub advanced_results : results_by turn results (worker_of crew w).transaction
       ≡ (advance_of stood w log records newest versions results).results
-  advanced_results = go turn ∙ ap (λ z. z.results) turn_is
-    where
-      go : (move : Result Move Refused)
-          → results_by move results (worker_of crew w).transaction ≡ (whole move).results
-      go (Ok move) = refl
-      go (Err why) = refl
-
--- ---- the step on a whole state
-module _ (s : State) (w : ℕ) (log records newest : List ℕ) (versions : List Version) (results : List ℕ) where
-  abbrev advanced : Advanced
-  advanced = advance_of s w log records newest versions results
-
-  -- an advance changes transactions and workers alone
-  pub stepped_whole : (rows : List Row) (crew : List Worker) (answer : Answer)
-      → answer ≡ advanced.stepped.answer → rows ≡ advanced.stepped.state.rows → crew ≡ advanced.stepped.state.crew
-      → (let stepped : Stepped = record { answer = answer; state = joined (numbers_of s) rows crew } in stepped)
-      ≡ advanced.stepped
-  unfolding advance_of
-  stepped_whole rows crew answer answer_is rows_are crew_is = rw (answer_is, rows_are, crew_is) (go said)
-    where
-      said : Verdict
-      said = advance_verdict s w log (length records) (length newest) (length versions) (length results)
-
-      joined_again : Stepped → Stepped
-      joined_again z =
-          record { answer = z.answer; state = joined (numbers_of s) z.state.rows z.state.crew }
-
-      left : (row : Option Row) (i : ℕ) (worker : Worker) (answer : Answer)
-          → joined_again (record { answer = answer; state = with_worker (with_left s i row) w worker })
-          ≡ record { answer = answer; state = with_worker (with_left s i row) w worker }
-      left None i worker answer = refl
-      left (Some row) i worker answer = refl
-
-      carried : (move : Result Move Refused) (i : ℕ)
-          → joined_again (carried_out move s w i versions results).stepped
-          ≡ (carried_out move s w i versions results).stepped
-      carried (Ok move) i = left move.left i move.worker (answer_of move.waits)
-      carried (Err why) i = refl
-
-      go : (v : Verdict) → joined_again (advanced_when v s w log records newest versions results).stepped
-          ≡ (advanced_when v s w log records newest versions results).stepped
-      go (Ok tt) = carried (move_of s (worker_at s w) log records newest versions) (worker_at s w).transaction
-      go (Err why) = refl
+  advanced_results =
+      rw (turn_same, same_transaction crew w) (advance_results stood w log records newest versions results)

@@ -60,17 +60,12 @@ impl Worker {
     fn next_carried(self, carries: u8) -> u8
         ensures { result ≡ next_carried self.carried carries }
     {
-        let first = u8::from(self.carried[0]);
-        let second = first + u8::from(self.carried[1]);
-        if self.carried[0] && 0 == carries {
-            0
-        } else if self.carried[1] && first == carries {
-            1
-        } else if self.carried[2] && second == carries {
-            2
-        } else {
-            3
-        }
+        (0..4)
+            .zip(self.carried.iter())
+            .filter(|&(_, &mark)| mark)
+            .map(|(j, _)| j)
+            .nth(usize::from(carries))
+            .unwrap_or(3)
     }
 
     #[tactic(auto, unfolding(crate::specs::Acts::act_of))]

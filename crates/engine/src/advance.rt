@@ -65,7 +65,7 @@ impl Aim {
 fn in_set(four: [u16; 4], k: u8) -> usize
     ensures { result ≡ get_or four k 0 }
 {
-    if k < 4 { four[k as usize] as usize } else { 0 }
+    usize::from(four.get(usize::from(k)).copied().unwrap_or(0))
 }
 
 // The entry that the advance fills, where it fills one.
@@ -83,10 +83,9 @@ pub(crate) fn give_results(results: &mut [u64], transaction: u8, four: Option<[u
 {
     if let Some(four) = four {
         let at = 4 * usize::from(transaction);
-        tables::put(results, at, four[0]);
-        tables::put(results, at + 1, four[1]);
-        tables::put(results, at + 2, four[2]);
-        tables::put(results, at + 3, four[3]);
+        for (k, number) in four.iter().enumerate() {
+            tables::put(results, at + k, *number);
+        }
     }
 }
 

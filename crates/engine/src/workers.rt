@@ -1,22 +1,10 @@
 // A worker alone.
-ghost use Rattle.std.specs.Prelude.{◌≡◌, set};
+ghost use Rattle.std.specs.Prelude.{◌≡◌};
 ghost use Rattle.engine.specs.Workers.{is_idle, idle_worker, claimed, count_above, with_value, count_in};
 ghost use Rattle.engine.specs.Workers.{with_decision, carried_on, with_carry, with_phase};
 
-use crate::{Phase, Worker};
+use crate::{Phase, Worker, tables};
 use counters::Decision;
-
-// Number k of four replaced; past the fourth nothing is. By an index: of what `get_mut` lends a proof knows the length
-// alone.
-fn put_in_four(mut four: [u64; 4], k: u8, number: u64) -> [u64; 4]
-    ensures { result ≡ set four k number }
-{
-    let k = usize::from(k);
-    if k < four.len() {
-        four[k] = number;
-    }
-    four
-}
 
 impl Phase {
     // The values that a worker has read.
@@ -100,11 +88,13 @@ impl Worker {
     pub(crate) fn with_value(self, k: u8, number: u64) -> Worker
         ensures { result ≡ with_value self k number }
     {
+        let mut values = self.values;
+        tables::put(&mut values, usize::from(k), number);
         Worker {
             phase: Phase::Reading {
                 values: k.saturating_add(1),
             },
-            values: put_in_four(self.values, k, number),
+            values,
             ..self
         }
     }
@@ -132,9 +122,11 @@ impl Worker {
     pub(crate) fn with_carry(self, j: u8, number: u64) -> Worker
         ensures { result ≡ with_carry self j number }
     {
+        let mut contents = self.contents;
+        tables::put(&mut contents, usize::from(j), number);
         Worker {
             phase: self.phase.carried_on(),
-            contents: put_in_four(self.contents, j, number),
+            contents,
             ..self
         }
     }

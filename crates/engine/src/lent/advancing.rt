@@ -2,7 +2,8 @@
 ghost use Rattle.std.specs.Prelude.{◌≡◌, ◌*◌, set};
 ghost use Rattle.engine.specs.Advance.{advance_of, with_filled, with_results};
 ghost use Rattle.engine.specs.Lent.{joined};
-ghost use Rattle.engine.specs.LawsLentAdvance.{aim_by, turn_with, row_left};
+ghost use Rattle.engine.specs.LawsAdvance.{row_left};
+ghost use Rattle.engine.specs.LawsLentAdvance.{aim_by, turn_with};
 
 use crate::advance::{Aim, fill_one, give_results};
 use crate::lent::entries::worker_at;
@@ -147,6 +148,6 @@ pub fn advance(
             give_results(results, worker.transaction, step.results);
             step.answer()
         }
-        Err(why) => Answer::Refused(why.refusal, why.place),
+        Err(why) => Answer::from(why),
     }
 }

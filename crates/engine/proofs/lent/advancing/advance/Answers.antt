@@ -1,5 +1,5 @@
 use Rattle.std.proofs.Common.{sym, ap, ◌∙◌, ◌*◌}
-use Rattle.engine.specs.LawsLentAdvance.{answered, row_left, rows_by, crew_by, versions_by, results_by}
+use Rattle.engine.specs.LawsAdvance.{answered, row_left, rows_by, crew_by, versions_by, results_by}
 use Rattle.engine.specs.LawsLentAdvance.{
   advanced_answer,
   advanced_rows,
@@ -63,7 +63,7 @@ returns-in-Err c =
     let results = c.args.results.now in
     let i = (worker_of crew party).transaction in
     let turn = sym c.in-Err.is ∙ rw (c.are_wrong-wrong.ensures, c.worker_at-worker.ensures) at c.turn-turn.ensures in (
-      ap answered turn ∙ advanced_answer numbers rows crew party log records newest versions results,
+      c.from.ensures ∙ ap answered turn ∙ advanced_answer numbers rows crew party log records newest versions results,
       (
         ap (λ move. rows_by move rows i) turn
             ∙ advanced_rows numbers rows crew party log records newest versions results,
