@@ -47,10 +47,12 @@ impl Worker {
                 carries,
                 fills,
             } => {
+                let marks = self.marks();
+                let carries = usize::from(carries);
                 meaning.readcount < values
                     || self.has_mark_past(meaning.writecount)
-                    || self.marks() < usize::from(carries)
-                    || (0 < fills && usize::from(carries) < self.marks())
+                    || marks < carries
+                    || (0 < fills && carries < marks)
                     || meaning.writecount <= fills
             }
         }
