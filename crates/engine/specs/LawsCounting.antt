@@ -1,7 +1,12 @@
--- Loops that join a test over the numbers below a bound.
+-- Loops and chains that join a test over the numbers below a bound.
 use Rattle.std.specs.Prelude.{ℕ, zero, suc, ◌+◌, ◌≤◌, ◌<◌, Bool, true, false, ◌||◌, ◌≡◌, refl}
-use Rattle.std.proofs.Common.{ap, ◌∙◌, subst, add-one, arith}
+use Rattle.std.specs.Prelude.{List, length, get_or, take}
+use Rattle.std.specs.List.{enumerate_from, list_any}
+use Rattle.std.proofs.Common.{ap, sym, ◌∙◌, subst, add-one, arith}
 use Rattle.std.proofs.Math.Decide.{dec_lt}
+use Rattle.std.proofs.lemmas.List.{take_all, get_or_past}
+use Rattle.std.proofs.lemmas.List.Folds.{list_any_more}
+use Rattle.std.proofs.lemmas.List.FromFn.{length-enumerate_from, get_or-enumerate_from}
 use Rattle.packed.specs.LawsForm.{not_left, not_right}
 use Rattle.engine.specs.Counting.{some_below}
 
@@ -65,6 +70,53 @@ none_past low (suc high) test most none =
         ap (λ n. some_below n test) same
     go rest (no before) =
         rw (none high (omega arith) (omega arith)) (rest (omega arith) ∙ or_none (some_below high test))
+
+-- ---- a chain that asks each entry of a list with its number
+
+-- the first entries; past the last one the test fails
+pub any_first : {A : Type 0} (test : ℕ → A → Bool) (past : A) (bound : ℕ) (xs : List A)
+    → ((k : ℕ) → length xs ≤ k → k < bound → test k past ≡ false)
+    → list_any (λ entry. test entry.0 entry.1) (take bound (enumerate_from 0 xs))
+    ≡ some_below bound (λ k. test k (get_or xs k past))
+unfolding some_below
+any_first test past zero xs none = refl
+any_first {A} test past (suc bound) xs none =
+    go (any_first test past bound xs (λ k more below. none k more (omega (arith, below)))) (dec_lt bound (length xs))
+  where
+    entries : List (ℕ × A)
+    entries = enumerate_from 0 xs
+
+    asks : ℕ × A → Bool
+    asks entry = test entry.0 entry.1
+
+    go : list_any asks (take bound entries) ≡ some_below bound (λ k. test k (get_or xs k past))
+        → Dec (bound < length xs)
+        → list_any asks (take (suc bound) entries)
+        ≡ (some_below bound (λ k. test k (get_or xs k past)) || test bound (get_or xs bound past))
+    go rest (yes there) =
+        let number : 0 + bound ≡ bound = omega arith in
+        ap (λ n. list_any asks (take n entries)) (sym (add-one bound))
+        ∙ list_any_more asks entries bound (0, past) (rw (length-enumerate_from 0 xs) there)
+        ∙ rw (rest, get_or-enumerate_from 0 xs bound (0, past) there, number) refl
+    go rest (no last) =
+        let all : length xs ≤ bound = omega arith in
+        rw (
+          take_all (suc bound) entries (rw (length-enumerate_from 0 xs) (omega (arith, all))),
+          get_or_past xs bound past all,
+          none bound all (omega arith),
+          ← rest,
+          take_all bound entries (rw (length-enumerate_from 0 xs) all),
+        )
+        (or_none (list_any asks entries))
+
+-- all of them, of so many
+pub any_entry : {A : Type 0} (test : ℕ → A → Bool) (past : A) (bound : ℕ) (xs : List A) → length xs ≡ bound
+    → list_any (λ entry. test entry.0 entry.1) (enumerate_from 0 xs)
+    ≡ some_below bound (λ k. test k (get_or xs k past))
+any_entry test past bound xs many =
+    ap (list_any (λ entry. test entry.0 entry.1))
+    (sym (take_all bound (enumerate_from 0 xs) (rw (length-enumerate_from 0 xs) (omega (arith, many)))))
+    ∙ any_first test past bound xs (λ k more below. absurd (omega (arith, many, more, below)))
 
 or_true : (b : Bool) → (b || true) ≡ true
 or_true true = refl

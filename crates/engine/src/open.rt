@@ -6,7 +6,7 @@ ghost use Rattle.engine.specs.Open.{wrong_for_opening, wrong_batch_length, each_
 ghost use Rattle.engine.specs.LawsOpen.{open_plan};
 
 use crate::lent::{self, range};
-use crate::{State, Stepped, rows, tables, workers};
+use crate::{State, Stepped, rows, workers};
 use packed::unpack_at;
 use terms::{NO_END, NO_SLOT, Refusal, Refused, Verdict, refuse_if};
 use versions::{Version, clear};
@@ -41,9 +41,7 @@ impl State {
     fn is_wrong_for_opening(&self, newest: usize, versions: usize, results: usize) -> bool
         ensures { result ≡ wrong_for_opening self.now newest versions results }
     {
-        tables::is_not_of(newest, self.records as usize)
-            | tables::is_not_of(versions, 256)
-            | tables::is_not_of(results, 256)
+        (newest != usize::from(self.records)) | (versions != 256) | (results != 256)
     }
 
     // "n (0 when no batch is open)"
@@ -78,7 +76,7 @@ impl State {
         refuse_if(is_wrong_batch_length(log.len()), Refusal::WrongLength, 0)?;
         let count = log.len() / 88;
         refuse_if(runs_out(self.next.0, count), Refusal::PositionsRunOut, 0)?;
-        each_in_turn(log, self.records as usize, count)?;
+        each_in_turn(log, usize::from(self.records), count)?;
         Ok(count as u8)
     }
 

@@ -10,7 +10,7 @@ ghost use Rattle.engine.specs.Range.{placed_by};
 
 use crate::lent::{Counted, Numbers, moment, range};
 use crate::place::{Placing, place_writes, some_meets_wrong, writes_of};
-use crate::{Answer, Row, Worker, tables};
+use crate::{Answer, Row, Worker};
 use packed::{Unpacked, unpack_at};
 use terms::{Refusal, Refused, refuse_if};
 use versions::Version;
@@ -55,7 +55,7 @@ fn planned(
     )?;
     Ok(Placing {
         transaction,
-        position: numbers.next.0 + transaction as u64,
+        position: numbers.next.0 + u64::from(transaction),
         writes,
         count: transaction + 1,
     })
@@ -83,12 +83,16 @@ pub(crate) fn consider_place(
         0,
     )?;
     refuse_if(moment::is_not_planning(numbers), Refusal::WrongMoment, 0)?;
-    refuse_if(numbers.partitions as usize <= p, Refusal::NoSuchParty, 0)?;
+    refuse_if(
+        usize::from(numbers.partitions) <= p,
+        Refusal::NoSuchParty,
+        0,
+    )?;
     let transaction = placed_by(numbers, p);
     refuse_if(transaction == numbers.size, Refusal::PartitionDone, 0)?;
-    let wrong_log = tables::is_not_of(log.len(), 88 * numbers.size as usize);
-    refuse_if(wrong_log, Refusal::WrongLength, 0)?;
-    let entry = unpack_at(log, transaction as usize, numbers.records as usize);
+    let length = 88 * usize::from(numbers.size);
+    refuse_if(log.len() != length, Refusal::WrongLength, 0)?;
+    let entry = unpack_at(log, usize::from(transaction), usize::from(numbers.records));
     planned(numbers, p, transaction, entry, newest)
 }
 
