@@ -57,7 +57,7 @@ impl State {
         refuse_if(is_wrong_batch_length(log.len()), Refusal::WrongLength, 0)?;
         let count = log.len() / 88;
         refuse_if(numbers.runs_out(count), Refusal::PositionsRunOut, 0)?;
-        each_in_turn(log, self.records as usize, count)?;
+        each_in_turn(log, usize::from(self.records), count)?;
         Ok(count as u8)
     }
 

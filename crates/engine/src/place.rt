@@ -6,6 +6,7 @@ ghost use Rattle.engine.specs.LawsPlace.{written_at, writes_of, meets_at, both, 
 
 use crate::{State, Stepped, lent, tables};
 use packed::Transaction;
+use std::array;
 use versions::{Link, Version, link};
 
 // What an accepted place step comes to: the transaction with its position, the records of its writes that lie in the
@@ -24,7 +25,8 @@ fn written_at(partitions: u8, p: usize, meaning: &Transaction, j: usize) -> Opti
     ensures { result ≡ written_at partitions p meaning.now j }
 {
     let number = meaning.writes[j];
-    let here = (j < meaning.writecount as usize) & (number as usize % partitions as usize == p);
+    let here = (j < usize::from(meaning.writecount))
+        & (usize::from(number) % usize::from(partitions) == p);
     here.then_some(number)
 }
 
@@ -33,34 +35,38 @@ pub(crate) fn writes_of(partitions: u8, p: usize, meaning: &Transaction) -> [Opt
     requires { 1 ≤ partitions }
     ensures { result ≡ writes_of partitions p meaning.now }
 {
-    [
-        written_at(partitions, p, meaning, 0),
-        written_at(partitions, p, meaning, 1),
-        written_at(partitions, p, meaning, 2),
-        written_at(partitions, p, meaning, 3),
-    ]
+    array::from_fn(|j| written_at(partitions, p, meaning, j))
 }
 
 // "a slot met in placing is not below its own"
 fn is_not_below(slot: u16, own: usize) -> bool
     ensures { result ≡ not_below slot own }
 {
-    !terms::is_no_slot(slot) & (own <= slot as usize)
+    !terms::is_no_slot(slot) & (own <= usize::from(slot))
+}
+
+// Write j lies in the partition, and the slot that it meets is not below its own.
+fn meets_wrong(transaction: u8, write: Option<u16>, j: usize, newest: &[u16]) -> bool
+    requires { j < 4 }
+    ensures { result ≡ meets_at transaction write j newest.now }
+{
+    match write {
+        Some(number) => {
+            let slot = tables::newest_of(newest, usize::from(number));
+            is_not_below(slot, 4 * usize::from(transaction) + j)
+        }
+        None => false,
+    }
 }
 
 // Some write meets a wrong slot.
 pub(crate) fn some_meets_wrong(transaction: u8, writes: &[Option<u16>; 4], newest: &[u16]) -> bool
     ensures { result ≡ some_below 4 (λ j. meets_at transaction (get_or writes.now j None) j newest.now) }
 {
-    for (j, write) in writes.iter().enumerate() {
-        if let Some(number) = *write {
-            let slot = tables::newest_of(newest, number as usize);
-            if is_not_below(slot, 4 * transaction as usize + j) {
-                return true;
-            }
-        }
-    }
-    false
+    writes
+        .iter()
+        .enumerate()
+        .any(|(j, &write)| meets_wrong(transaction, write, j, newest))
 }
 
 // "begin is its position, end 2^64 − 1, previous is the newest slot, not produced; a preceding entry's end becomes this
@@ -68,17 +74,17 @@ pub(crate) fn some_meets_wrong(transaction: u8, writes: &[Option<u16>; 4], newes
 fn place_write(newest: &mut [u16], versions: &mut [Version], position: u64, slot: u16, number: u16)
     ensures { both newest.new versions.new ≡ place_write position slot number (both newest.old versions.old) }
 {
-    let previous = tables::newest_of(newest, number as usize);
+    let previous = tables::newest_of(newest, usize::from(number));
     link(
         versions,
         Link {
-            slot: slot as usize,
+            slot: usize::from(slot),
             position,
             previous,
         },
     );
-    if (number as usize) < newest.len() {
-        newest[number as usize] = slot;
+    if usize::from(number) < newest.len() {
+        newest[usize::from(number)] = slot;
     }
 }
 
@@ -88,7 +94,7 @@ pub(crate) fn place_writes(newest: &mut [u16], versions: &mut [Version], plan: P
 {
     for (j, write) in plan.writes.iter().enumerate() {
         if let Some(number) = *write {
-            let slot = 4 * plan.transaction as u16 + j as u16;
+            let slot = 4 * u16::from(plan.transaction) + j as u16;
             place_write(newest, versions, plan.position, slot, number);
         }
     }

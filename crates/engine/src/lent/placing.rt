@@ -36,7 +36,7 @@ fn planned(
     )?;
     Ok(Placing {
         transaction,
-        position: numbers.next.0 + transaction as u64,
+        position: numbers.next.0 + u64::from(transaction),
         writes,
         count: transaction + 1,
     })
@@ -60,12 +60,16 @@ pub(crate) fn consider_place(
     let wrong = range::are_wrong(rows, crew, numbers);
     refuse_if(numbers.is_out_of_range(wrong), Refusal::StateOutOfRange, 0)?;
     refuse_if(numbers.is_not_planning(), Refusal::WrongMoment, 0)?;
-    refuse_if(numbers.partitions as usize <= p, Refusal::NoSuchParty, 0)?;
+    refuse_if(
+        usize::from(numbers.partitions) <= p,
+        Refusal::NoSuchParty,
+        0,
+    )?;
     let transaction = numbers.placed_by(p);
     refuse_if(transaction == numbers.size, Refusal::PartitionDone, 0)?;
-    let wrong_log = log.len() != 88 * usize::from(numbers.size);
-    refuse_if(wrong_log, Refusal::WrongLength, 0)?;
-    let entry = unpack_at(log, transaction as usize, numbers.records as usize);
+    let length = 88 * usize::from(numbers.size);
+    refuse_if(log.len() != length, Refusal::WrongLength, 0)?;
+    let entry = unpack_at(log, usize::from(transaction), usize::from(numbers.records));
     planned(numbers, p, transaction, entry, newest)
 }
 

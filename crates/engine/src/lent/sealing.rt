@@ -45,7 +45,7 @@ pub(crate) fn consider_seal(
     let sound = newest_sound(versions, newest, numbers.slots());
     refuse_if(!sound, Refusal::BrokenTables, 0)?;
     Ok(Numbers {
-        next: Position(numbers.next.0 + numbers.size as u64),
+        next: Position(numbers.next.0 + u64::from(numbers.size)),
         size: 0,
         batch: BatchNumber(numbers.batch.0 + 1),
         placed: [0; 8],

@@ -1,23 +1,20 @@
-use Rattle.std.proofs.Common.{refl, sym, arith}
-use Rattle.engine.specs.Counting.{some_below}
-use Rattle.engine.specs.LawsCounting.{found_below, none_more}
+use Rattle.std.proofs.Common.{◌∙◌, None, rules}
+use Rattle.std.proofs.lemmas.Iterator.{YieldsList-from_slice}
+use Rattle.std.proofs.lemmas.Iterator.Consumers.{YieldsList-from_enumerate}
+use Rattle.std.proofs.lemmas.Iterator.Search.{any_from_yields_List}
+use Rattle.engine.specs.LawsCounting.{any_entry}
+use Rattle.engine.specs.LawsPlace.{meets_at}
 use Rattle.engine.proofs.place.some_meets_wrong.Goals as goal
-use Rattle.engine.proofs.place.some_meets_wrong.Goals.{in-Some+else-is_not_below, in_default}
 
-pub loop-j-init : goal.loop-j-init
-unfolding some_below
-loop-j-init c = refl
-
-pub returns-then-is_not_below : goal.returns-then-is_not_below
-returns-then-is_not_below c =
-    sym (found_below 4 _ c.loop-j.j (omega arith)
-    (rw (c.in-Some.is, ← c.newest_of-slot.ensures, ← c.is_not_below.ensures) c.if-is_not_below.true))
-
-pub loop-j-preserved : goal.loop-j-preserved
-loop-j-preserved c =
-    elim c.match-write.branch [
-      | in-Some+else-is_not_below w ↦
-          none_more _ c.loop-j.j c.loop-j.invariant
-          (rw (w.in-Some.is, ← w.newest_of-slot.ensures, ← w.is_not_below.ensures) w.if-is_not_below.false)
-      | in_default w ↦ none_more _ c.loop-j.j c.loop-j.invariant (rw w.in_default.is refl)
-    ]
+pub returns : goal.returns
+returns c =
+    let a = c.args in
+    any_from_yields_List
+    (λ entry. meets_at a.transaction entry.1 entry.0 a.newest.now)
+    _
+    _
+    c.any.result
+    c.any.ensures.ran
+    (YieldsList-from_enumerate (YieldsList-from_slice a.writes.now cc) cc)
+    (λ x b q k. search rules)
+    ∙ any_entry (λ j write. meets_at a.transaction write j a.newest.now) None 4 a.writes.now (search rules)

@@ -13,7 +13,8 @@ returns-in_err-refuse_if c =
     : c.some_meets_wrong.result
     ≡ some_below 4 (meets_wrong a.numbers.partitions a.p a.transaction a.entry.meaning a.newest.now) =
     rw (c.some_meets_wrong.ensures, c.writes_of-writes.ensures) met in
-    let found = err_from_is_err_and c.from_residual-in_err-refuse_if.result c.from_residual-in_err-refuse_if.ensures.1 in
+    let refusal = c.from_residual-in_err-refuse_if in
+    let found = err_from_is_err_and refusal.result refusal.ensures.1 in
     rw (found.1, found.2, c.in_ok-entry.was, ← told, ← c.in_err-refuse_if.ensures) refl
 
 pub returns : goal.returns
@@ -24,4 +25,4 @@ returns c =
     : c.some_meets_wrong.result
     ≡ some_below 4 (meets_wrong a.numbers.partitions a.p a.transaction a.entry.meaning a.newest.now) =
     rw (c.some_meets_wrong.ensures, c.writes_of-writes.ensures) met in
-    rw (c.in_ok-entry.was, ← told, ← c.in_ok-refuse_if.ensures, c.writes_of-writes.ensures) refl
+    rw (c.in_ok-entry.was, ← told, ← c.in_ok-refuse_if.ensures, c.writes_of-writes.ensures, c.from.ensures) refl
