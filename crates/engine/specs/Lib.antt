@@ -16,6 +16,7 @@ pub mod LawsLentPlace
 pub mod LawsLentSeal
 pub mod LawsOpen
 pub mod LawsPlace
+pub mod LawsPlan
 pub mod LawsRange
 pub mod LawsRefused
 pub mod LawsSeal

@@ -2,9 +2,10 @@
 ghost use Rattle.std.specs.Prelude.{◌≡◌};
 ghost use Rattle.engine.specs.Answers.{answer_number, answer_place, answer_position, refuse, accept};
 ghost use Rattle.engine.specs.Answers.{refuse_by, is_accepted};
+ghost use Rattle.engine.specs.declared.Answer.TheVariants.{Refused};
 
 use crate::{Answer, State, Stepped};
-use terms::{Place, Refusal, Verdict};
+use terms::{Place, Refusal, Refused, Verdict};
 
 impl Answer {
     // The refusal number, and 0 for an accepted step or a wait.
@@ -79,5 +80,13 @@ pub(crate) fn is_accepted(verdict: Verdict) -> bool
     match verdict {
         Ok(()) => true,
         Err(_) => false,
+    }
+}
+
+impl From<Refused> for Answer {
+    ghost from_gives = { λ why answer. answer ≡ Refused why.refusal why.place };
+
+    fn from(why: Refused) -> Answer {
+        Answer::Refused(why.refusal, why.place)
     }
 }

@@ -1,20 +1,18 @@
 // The steps on a state whose transactions and workers are lent, so that a step copies no more than it changes.
 pub(crate) mod advancing;
 pub(crate) mod claiming;
-pub(crate) mod crew;
+pub(crate) mod entries;
 pub(crate) mod moment;
 pub(crate) mod placing;
 pub(crate) mod range;
 pub(crate) mod sealing;
-pub(crate) mod transactions;
 
-ghost use Rattle.std.specs.Prelude.{◌≡◌, [], replicate};
-ghost use Rattle.engine.specs.Lent.{unprocessed, joined, numbers_of};
+ghost use Rattle.std.specs.Prelude.{◌≡◌, []};
+ghost use Rattle.engine.specs.Lent.{joined, numbers_of};
 ghost use Rattle.engine.specs.Range.{placed_by};
 ghost use Rattle.engine.specs.LawsLentPlace.{placed_numbers};
-ghost use Rattle.engine.specs.Workers.{idle_worker};
 
-use crate::{Answer, State, rows, tables, workers};
+use crate::{Answer, Row, State, Stepped, Worker, tables};
 pub use advancing::advance;
 pub use claiming::claim;
 pub use placing::place;
@@ -57,6 +55,31 @@ pub struct Counted {
     pub numbers: Numbers,
 }
 
+impl Counted {
+    // The state that a step leaves, put together again with the transactions and the workers.
+    pub(crate) fn joined(self, rows: [Row; 64], crew: [Worker; 8]) -> Stepped
+        ensures { result ≡ record { answer = self.answer; state = joined self.numbers rows crew } }
+    {
+        let numbers = self.numbers;
+        let placed = numbers.placed;
+        let state = State {
+            records: numbers.records,
+            partitions: numbers.partitions,
+            workers: numbers.workers,
+            next: numbers.next,
+            size: numbers.size,
+            batch: numbers.batch,
+            placed,
+            rows,
+            crew,
+        };
+        Stepped {
+            answer: self.answer,
+            state,
+        }
+    }
+}
+
 // The numbers of a state.
 pub fn numbers_of(state: State) -> Numbers
     ensures { result ≡ numbers_of state }
@@ -70,23 +93,5 @@ pub fn numbers_of(state: State) -> Numbers
         size: state.size,
         batch: state.batch,
         placed,
-    }
-}
-
-// The numbers with transactions and workers that nobody looks at.
-pub(crate) fn alone(numbers: Numbers) -> State
-    ensures { result ≡ joined numbers (replicate 64 unprocessed) (replicate 8 idle_worker) }
-{
-    let placed = numbers.placed;
-    State {
-        records: numbers.records,
-        partitions: numbers.partitions,
-        workers: numbers.workers,
-        next: numbers.next,
-        size: numbers.size,
-        batch: numbers.batch,
-        placed,
-        rows: [rows::unprocessed(); 64],
-        crew: [workers::idle(); 8],
     }
 }
