@@ -14,7 +14,6 @@ pub mod LawsLentAdvance
 pub mod LawsLentClaim
 pub mod LawsLentPlace
 pub mod LawsLentSeal
-pub mod LawsMake
 pub mod LawsOpen
 pub mod LawsPlace
 pub mod LawsPlan

@@ -8,11 +8,13 @@ pub(crate) mod range;
 pub(crate) mod sealing;
 pub(crate) mod transactions;
 
-ghost use Rattle.std.specs.Prelude.{◌≡◌, replicate};
+ghost use Rattle.std.specs.Prelude.{◌≡◌, [], replicate};
 ghost use Rattle.engine.specs.Lent.{unprocessed, joined, numbers_of};
+ghost use Rattle.engine.specs.Range.{placed_by};
+ghost use Rattle.engine.specs.LawsLentPlace.{placed_numbers};
 ghost use Rattle.engine.specs.Workers.{idle_worker};
 
-use crate::{Answer, Row, State, Stepped, Worker, rows, workers};
+use crate::{Answer, Row, State, Stepped, Worker, rows, tables, workers};
 pub use advancing::advance;
 pub use claiming::claim;
 pub use placing::place;
@@ -29,6 +31,23 @@ pub struct Numbers {
     pub size: u8,
     pub batch: BatchNumber,
     pub placed: [u8; 8],
+}
+
+impl Numbers {
+    // How many transactions a partition has placed; none past the eighth.
+    pub(crate) fn placed_by(self, p: usize) -> u8
+        ensures { result ≡ placed_by (joined self [] []) p }
+    {
+        self.placed.get(p).copied().unwrap_or(0)
+    }
+
+    // A partition has placed so many; past the eighth nothing changes.
+    pub(crate) fn with_placed(mut self, p: usize, count: u8) -> Numbers
+        ensures { result ≡ placed_numbers self p count }
+    {
+        tables::put(&mut self.placed, p, count);
+        self
+    }
 }
 
 // A step's answer and the numbers after it.
@@ -68,15 +87,13 @@ pub fn numbers_of(state: State) -> Numbers
     ensures { result ≡ numbers_of state }
 {
     let placed = state.placed;
-    let next = state.next;
-    let batch = state.batch;
     Numbers {
         records: state.records,
         partitions: state.partitions,
         workers: state.workers,
-        next,
+        next: state.next,
         size: state.size,
-        batch,
+        batch: state.batch,
         placed,
     }
 }
@@ -85,20 +102,16 @@ pub fn numbers_of(state: State) -> Numbers
 pub(crate) fn alone(numbers: Numbers) -> State
     ensures { result ≡ joined numbers (replicate 64 unprocessed) (replicate 8 idle_worker) }
 {
-    let row = rows::unprocessed();
-    let worker = workers::idle();
     let placed = numbers.placed;
-    let next = numbers.next;
-    let batch = numbers.batch;
     State {
         records: numbers.records,
         partitions: numbers.partitions,
         workers: numbers.workers,
-        next,
+        next: numbers.next,
         size: numbers.size,
-        batch,
+        batch: numbers.batch,
         placed,
-        rows: [row; 64],
-        crew: [worker; 8],
+        rows: [rows::unprocessed(); 64],
+        crew: [workers::idle(); 8],
     }
 }

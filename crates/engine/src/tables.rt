@@ -15,7 +15,7 @@ pub(crate) fn is_not_of(size: usize, right: usize) -> bool
 pub(crate) fn newest_of(newest: &[u16], r: usize) -> u16
     ensures { result ≡ newest_of newest.now r }
 {
-    if r < newest.len() { newest[r] } else { NO_SLOT }
+    newest.get(r).copied().unwrap_or(NO_SLOT)
 }
 
 // "fills the newest-version table with 65,535". With `on` false nothing changes.
@@ -23,11 +23,7 @@ pub(crate) fn empty_newest(newest: &mut [u16], on: bool)
     ensures { newest.new ≡ cond on (none_newest newest.old) newest.old }
 {
     if on {
-        let mut r: usize = 0;
-        while r < newest.len() {
-            newest[r] = NO_SLOT;
-            r += 1;
-        }
+        newest.fill(NO_SLOT);
     }
 }
 
@@ -36,11 +32,17 @@ pub(crate) fn empty_results(results: &mut [u64], on: bool)
     ensures { results.new ≡ cond on (all_zero results.old) results.old }
 {
     if on {
-        let mut k: usize = 0;
-        while k < results.len() {
-            results[k] = 0;
-            k += 1;
-        }
+        results.fill(0);
+    }
+}
+
+// Entry k of a table replaced; past its end nothing changes. (c) With `get_mut` a proof does not know what the table
+// holds afterwards.
+pub(crate) fn put<T: Copy>(table: &mut [T], k: usize, entry: T)
+    ensures { table.new ≡ set table.old k entry }
+{
+    if k < table.len() {
+        table[k] = entry;
     }
 }
 
@@ -48,16 +50,14 @@ pub(crate) fn empty_results(results: &mut [u64], on: bool)
 pub(crate) fn put_number(table: &mut [u64], k: usize, number: u64)
     ensures { table.new ≡ set table.old k number }
 {
-    if k < table.len() {
-        table[k] = number;
-    }
+    put(table, k, number);
 }
 
 // Number k of a table; past its end, 0.
 pub(crate) fn number_at(table: &[u64], k: usize) -> u64
     ensures { result ≡ get_or table.now k 0 }
 {
-    if k < table.len() { table[k] } else { 0 }
+    table.get(k).copied().unwrap_or(0)
 }
 
 // How many entries of the version table are emptied: all, or with `on` false none.

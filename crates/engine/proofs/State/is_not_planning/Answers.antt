@@ -4,4 +4,4 @@ use Rattle.engine.proofs.State.is_not_planning.Goals as goal
 
 pub returns : goal.returns
 unfolding not_planning
-returns c = rw c.is_planning.ensures refl
+returns c = rw (c.is_not_planning.ensures, c.numbers_of.ensures) refl

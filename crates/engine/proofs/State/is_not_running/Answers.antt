@@ -4,4 +4,4 @@ use Rattle.engine.proofs.State.is_not_running.Goals as goal
 
 pub returns : goal.returns
 unfolding not_running
-returns c = rw c.is_planning.ensures refl
+returns c = rw (c.is_not_running.ensures, c.numbers_of.ensures) refl

@@ -1,13 +1,10 @@
-use Rattle.std.proofs.Common.{refl}
-use Rattle.engine.specs.Range.{out_of_range}
+use Rattle.std.proofs.Common.{◌∙◌}
+use Rattle.engine.specs.LawsLent.{range_told}
+use Rattle.engine.specs.Lent.{numbers_of}
 use Rattle.engine.proofs.State.is_out_of_range.Goals as goal
 
 pub returns : goal.returns
-unfolding out_of_range
 returns c =
-    rw (
-      c.has_wrong_row.ensures,
-      c.has_wrong_worker.ensures,
-      c.has_wrong_placed.ensures,
-      c.has_wrong_number.ensures,
-    ) refl
+    let s = c.args.self in
+    c.is_out_of_range.ensures
+    ∙ rw (c.are_wrong-wrong.ensures, c.numbers_of-numbers.ensures) (range_told (numbers_of s) s.rows s.crew)
