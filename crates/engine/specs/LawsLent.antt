@@ -99,46 +99,6 @@ range_told numbers rows crew =
 
 -- ---- the numbers alone
 
--- with transactions and workers that nobody looks at
-abbrev pub alone_of : Numbers → State
-alone_of numbers = joined numbers (replicate 64 unprocessed) (replicate 8 idle_worker)
-
-and_false : (b : Bool) → (b && false) ≡ false
-and_false true = refl
-and_false false = refl
-
-unprocessed_at : (count i : ℕ) → row_of (replicate count unprocessed) i ≡ unprocessed
-unprocessed_at zero i = refl
-unprocessed_at (suc count) zero = refl
-unprocessed_at (suc count) (suc i) = unprocessed_at count i
-
-none_wrong : (bound : ℕ) (test : ℕ → Bool) → ((k : ℕ) → test k ≡ false) → some_below bound test ≡ false
-unfolding some_below
-none_wrong zero test none = refl
-none_wrong (suc bound) test none = rw (none_wrong bound test none, none bound) refl
-
-idle_at : (count w : ℕ) → is_idle (get_or (replicate count idle_worker) w no_worker) ≡ true
-idle_at zero w = refl
-idle_at (suc count) zero = refl
-idle_at (suc count) (suc w) = idle_at count w
-
--- what the numbers have that are not out of range
-pub alone_in_range : (numbers : Numbers) (wrong : Bool) → out_of_range_by numbers wrong ≡ false
-    → InRange (alone_of numbers)
-alone_in_range numbers wrong none =
-    let s = alone_of numbers in
-    in_range s
-    (sym (range_told numbers (replicate 64 unprocessed) (replicate 8 idle_worker))
-    ∙ rw (
-      none_wrong 8 (worker_wrong s) (λ w. rw (idle_at 8 w) refl),
-      none_wrong 64 (row_wrong s) (λ i. rw (unprocessed_at 64 i) (and_false (ltb i numbers.size))),
-    )
-    (no_more (numbers_wrong (joined numbers [] []) || some_below 8 (placed_wrong (joined numbers [] []))) wrong none))
-  where
-    no_more : (a b : Bool) → (a || b) ≡ false → (a || (false || false)) ≡ false
-    no_more true b none = none
-    no_more false b none = refl
-
 -- a position, and past the last position that one
 abbrev pub position_by : Numbers → ℕ → ℕ
 position_by numbers i = min (numbers.next.0 + i) no_end

@@ -11,7 +11,7 @@ use Rattle.versions.specs.Table.{clear_of}
 use Rattle.versions.specs.declared.Version.{Version}
 use Rattle.engine.specs.Answers.{accept, refuse_by, and_then}
 use Rattle.engine.specs.LawsPlan.{if_accepted}
-use Rattle.engine.specs.LawsTables.{clear_all}
+use Rattle.engine.specs.LawsTables.{cleared_all}
 use Rattle.engine.specs.Open.{wrong_batch_length, open_verdict, entries_in, each_in_turn, opened, opened_by, open_of}
 use Rattle.engine.specs.Tables.{none_newest, all_zero}
 use Rattle.engine.specs.declared.State.{State}
@@ -99,7 +99,7 @@ module _ (s : State) (log newest : List ℕ) (versions : List Version) (results 
     where
       go : (v : Verdict) → versions_after (if_accepted v (entries_in log)) versions
           ≡ (opened_by v s log newest versions results).versions
-      go (Ok tt) = clear_all versions true
+      go (Ok tt) = cleared_all versions
       go (Err why) = refl
 
   pub open_results : results_after plan results ≡ (open_of s log newest versions results).results

@@ -6,7 +6,7 @@ use Rattle.versions.specs.Seal.{newest_sound_of, collect_of}
 use Rattle.versions.specs.Table.{clear_of}
 use Rattle.versions.specs.declared.Version.{Version}
 use Rattle.engine.specs.LawsPlan.{if_accepted}
-use Rattle.engine.specs.LawsTables.{clear_all}
+use Rattle.engine.specs.LawsTables.{cleared_all}
 use Rattle.engine.specs.Lent.{joined, numbers_of}
 use Rattle.engine.specs.Seal.{seal_verdict, closed, sealed_by, seal_of}
 use Rattle.engine.specs.Tables.{none_newest}
@@ -84,5 +84,5 @@ module _ (s : State) (records newest : List ℕ) (versions : List Version) where
     where
       go : (v : Verdict) → versions_after (if_accepted v (numbers_of (closed s))) versions
           ≡ (sealed_by v s records newest versions).versions
-      go (Ok tt) = clear_all versions true
+      go (Ok tt) = cleared_all versions
       go (Err why) = refl

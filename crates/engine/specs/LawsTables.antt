@@ -1,5 +1,5 @@
 -- Laws of emptying a table.
-use Rattle.std.specs.Prelude.{Bool, true, false, cond, List, [], ◌∷◌, ◌≡◌, refl, length}
+use Rattle.std.specs.Prelude.{List, [], ◌∷◌, ◌≡◌, refl, length}
 use Rattle.std.proofs.Common.{ap}
 use Rattle.versions.specs.Entry.{empty_entry}
 use Rattle.versions.specs.Table.{clear_of}
@@ -10,9 +10,3 @@ use Rattle.engine.specs.Tables.{all_empty}
 pub cleared_all : (versions : List Version) → clear_of versions (length versions) ≡ all_empty versions
 cleared_all [] = refl
 cleared_all (version ∷ versions) = ap (λ rest. empty_entry ∷ rest) (cleared_all versions)
-
--- or left as it is
-pub clear_all : (versions : List Version) (on : Bool)
-    → clear_of versions (cond on (length versions) 0) ≡ cond on (all_empty versions) versions
-clear_all versions true = cleared_all versions
-clear_all versions false = refl

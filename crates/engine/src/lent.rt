@@ -8,13 +8,12 @@ pub(crate) mod range;
 pub(crate) mod sealing;
 pub(crate) mod transactions;
 
-ghost use Rattle.std.specs.Prelude.{◌≡◌, [], replicate};
-ghost use Rattle.engine.specs.Lent.{unprocessed, joined, numbers_of};
+ghost use Rattle.std.specs.Prelude.{◌≡◌, []};
+ghost use Rattle.engine.specs.Lent.{joined, numbers_of};
 ghost use Rattle.engine.specs.Range.{placed_by};
 ghost use Rattle.engine.specs.LawsLentPlace.{placed_numbers};
-ghost use Rattle.engine.specs.Workers.{idle_worker};
 
-use crate::{Answer, Row, State, Stepped, Worker, rows, tables, workers};
+use crate::{Answer, Row, State, Stepped, Worker, tables};
 pub use advancing::advance;
 pub use claiming::claim;
 pub use placing::place;
@@ -95,23 +94,5 @@ pub fn numbers_of(state: State) -> Numbers
         size: state.size,
         batch: state.batch,
         placed,
-    }
-}
-
-// The numbers with transactions and workers that nobody looks at.
-pub(crate) fn alone(numbers: Numbers) -> State
-    ensures { result ≡ joined numbers (replicate 64 unprocessed) (replicate 8 idle_worker) }
-{
-    let placed = numbers.placed;
-    State {
-        records: numbers.records,
-        partitions: numbers.partitions,
-        workers: numbers.workers,
-        next: numbers.next,
-        size: numbers.size,
-        batch: numbers.batch,
-        placed,
-        rows: [rows::unprocessed(); 64],
-        crew: [workers::idle(); 8],
     }
 }

@@ -3,7 +3,7 @@ ghost use Rattle.std.specs.Prelude.{◌≡◌};
 ghost use Rattle.engine.specs.Make.{wrong_parameter, make_of};
 ghost use Rattle.engine.specs.States.{unopened};
 
-use crate::{Made, State, rows, workers};
+use crate::{Made, Row, State, Worker};
 use terms::{BatchNumber, Position, Refusal};
 
 fn is_wrong_parameter(n: usize, p: usize, w: usize, start: Position) -> bool
@@ -25,8 +25,8 @@ fn fresh(n: u16, p: u8, w: u8, start: Position) -> State
         size: 0,
         batch: BatchNumber(0),
         placed: [0; 8],
-        rows: [rows::unprocessed(); 64],
-        crew: [workers::idle(); 8],
+        rows: [Row::unprocessed(); 64],
+        crew: [Worker::idle(); 8],
     }
 }
 

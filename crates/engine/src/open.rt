@@ -1,12 +1,11 @@
 // Opening a batch.
-ghost use Rattle.std.specs.Prelude.{◌≡◌, ◌+◌, ltb, not};
+ghost use Rattle.std.specs.Prelude.{◌≡◌, ◌+◌, ltb};
 ghost use Rattle.terms.specs.Reserved.{no_end};
-ghost use Rattle.engine.specs.Moment.{no_batch};
-ghost use Rattle.engine.specs.Open.{wrong_for_opening, wrong_batch_length, each_in_turn, opened, open_of};
+ghost use Rattle.engine.specs.Open.{wrong_batch_length, each_in_turn, opened, open_of};
 ghost use Rattle.engine.specs.LawsOpen.{open_plan};
 
 use crate::lent::{self, range};
-use crate::{State, Stepped, rows, workers};
+use crate::{Row, State, Stepped, Worker};
 use packed::unpack_at;
 use terms::{NO_END, NO_SLOT, Refusal, Refused, Verdict, refuse_if};
 use versions::{Version, clear};
@@ -37,20 +36,6 @@ fn each_in_turn(log: &[u8], n: usize, count: usize) -> Verdict
 }
 
 impl State {
-    // "a lent table's length is wrong", of those that an opening is lent
-    fn is_wrong_for_opening(&self, newest: usize, versions: usize, results: usize) -> bool
-        ensures { result ≡ wrong_for_opening self.now newest versions results }
-    {
-        (newest != usize::from(self.records)) | (versions != 256) | (results != 256)
-    }
-
-    // "n (0 when no batch is open)"
-    fn is_open(&self) -> bool
-        ensures { result ≡ not (no_batch self.now) }
-    {
-        self.size != 0
-    }
-
     // "Opening checks 1, 14, 9, 2, 3, then each transaction in turn 4 to 8." Where none refuses, the number of
     // transactions.
     #[tactic(auto, using(crate::specs::LawsLent::range_told), unfolding(crate::specs::Open::open_verdict))]
@@ -63,16 +48,16 @@ impl State {
     ) -> Result<u8, Refused>
         ensures { result ≡ open_plan self.now log.now newest versions results }
     {
-        let wrong_length = self.is_wrong_for_opening(newest, versions, results);
-        refuse_if(wrong_length, Refusal::WrongParameter, 0)?;
         let numbers = lent::numbers_of(*self);
+        let wrong_length = numbers.is_wrong_for_opening(newest, versions, results);
+        refuse_if(wrong_length, Refusal::WrongParameter, 0)?;
         let wrong = range::are_wrong(&self.rows, &self.crew, numbers);
         refuse_if(
-            range::is_out_of_range(numbers, wrong),
+            numbers.is_out_of_range(wrong),
             Refusal::StateOutOfRange,
             0,
         )?;
-        refuse_if(self.is_open(), Refusal::WrongMoment, 0)?;
+        refuse_if(self.size != 0, Refusal::WrongMoment, 0)?;
         refuse_if(is_wrong_batch_length(log.len()), Refusal::WrongLength, 0)?;
         let count = log.len() / 88;
         refuse_if(runs_out(self.next.0, count), Refusal::PositionsRunOut, 0)?;
@@ -84,8 +69,8 @@ impl State {
     fn opened(mut self, size: u8) -> State
         ensures { result ≡ opened self size }
     {
-        let row = rows::unprocessed();
-        let worker = workers::idle();
+        let row = Row::unprocessed();
+        let worker = Worker::idle();
         self.size = size;
         self.rows = [row; 64];
         self.crew = [worker; 8];

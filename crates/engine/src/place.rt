@@ -1,7 +1,7 @@
 // "Place, partition p."
 ghost use Rattle.std.specs.Prelude.{◌≡◌, ◌≤◌, ◌<◌, None, get_or};
 ghost use Rattle.engine.specs.Counting.{some_below};
-ghost use Rattle.engine.specs.Place.{not_below, wrong_for_place, place_write, place_of};
+ghost use Rattle.engine.specs.Place.{not_below, place_write, place_of};
 ghost use Rattle.engine.specs.LawsPlace.{written_at, writes_of, meets_at, both, writes_below};
 
 use crate::{State, Stepped, lent, tables};
@@ -101,13 +101,6 @@ pub(crate) fn place_writes(newest: &mut [u16], versions: &mut [Version], plan: P
 }
 
 impl State {
-    // "a lent table's length is wrong", of those that a place step is lent
-    pub(crate) fn is_wrong_for_place(self, newest: usize, versions: usize) -> bool
-        ensures { result ≡ wrong_for_place self newest versions }
-    {
-        tables::is_not_of(newest, self.records as usize) | tables::is_not_of(versions, 256)
-    }
-
     pub fn place(
         self,
         p: usize,

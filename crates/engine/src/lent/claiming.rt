@@ -6,8 +6,8 @@ ghost use Rattle.engine.specs.LawsClaim.{claim_plan};
 
 use crate::lent::crew::{put_worker, worker_at};
 use crate::lent::transactions::{put_row, row_at};
-use crate::lent::{Numbers, moment, range};
-use crate::{Answer, Row, Worker, rows as single, workers};
+use crate::lent::{Numbers, range};
+use crate::{Answer, Row, Worker};
 use terms::{Refusal, Refused, refuse_if};
 
 // What an accepted claim comes to: how the transaction and the worker go on.
@@ -30,29 +30,29 @@ pub(crate) fn consider_claim(
 {
     let wrong = range::are_wrong(rows, crew, numbers);
     refuse_if(
-        range::is_out_of_range(numbers, wrong),
+        numbers.is_out_of_range(wrong),
         Refusal::StateOutOfRange,
         0,
     )?;
-    refuse_if(moment::is_not_running(numbers), Refusal::WrongMoment, 0)?;
+    refuse_if(numbers.is_not_running(), Refusal::WrongMoment, 0)?;
     refuse_if(
-        moment::has_no_such_claim(numbers, w, i),
+        numbers.has_no_such_claim(w, i),
         Refusal::NoSuchParty,
         0,
     )?;
     refuse_if(
-        !workers::is_idle(worker_at(crew, w)),
+        !worker_at(crew, w).is_idle(),
         Refusal::WorkerBusyOrIdle,
         0,
     )?;
     refuse_if(
-        !single::is_unprocessed(row_at(rows, i)),
+        !row_at(rows, i).is_unprocessed(),
         Refusal::NotUnprocessed,
         0,
     )?;
     Ok(Claiming {
-        executing: single::executing(w as u8),
-        starting: workers::starting(i as u8),
+        executing: Row::executing(w as u8),
+        starting: Worker::starting(i as u8),
     })
 }
 

@@ -2,35 +2,16 @@
 ghost use Rattle.std.specs.Prelude.{◌≡◌, ◌+◌, ◌≤◌, ◌<◌, []};
 ghost use Rattle.terms.specs.Reserved.{no_end};
 ghost use Rattle.engine.specs.Lent.{joined, counted_of};
-ghost use Rattle.engine.specs.LawsLentPlace.{placed_numbers};
 ghost use Rattle.engine.specs.LawsPlace.{placing_with, place_plan};
 ghost use Rattle.engine.specs.LawsPlan.{if_accepted};
 ghost use Rattle.engine.specs.Place.{fits, place_of};
-ghost use Rattle.engine.specs.Range.{placed_by};
 
-use crate::lent::{Counted, Numbers, moment, range};
+use crate::lent::{Counted, Numbers, range};
 use crate::place::{Placing, place_writes, some_meets_wrong, writes_of};
 use crate::{Answer, Row, Worker};
 use packed::{Unpacked, unpack_at};
 use terms::{Refusal, Refused, refuse_if};
 use versions::Version;
-
-// How many transactions a partition has placed; none past the eighth.
-pub(crate) fn placed_by(numbers: Numbers, p: usize) -> u8
-    ensures { result ≡ placed_by (joined numbers [] []) p }
-{
-    numbers.placed.get(p).copied().unwrap_or(0)
-}
-
-// A partition has placed so many; past the eighth nothing changes.
-pub(crate) fn with_placed(mut numbers: Numbers, p: usize, count: u8) -> Numbers
-    ensures { result ≡ placed_numbers numbers p count }
-{
-    if p < 8 {
-        numbers.placed[p] = count;
-    }
-    numbers
-}
 
 // "the one transaction's 4 to 8, then 15", of a transaction whose entry is unpacked.
 fn planned(
@@ -74,21 +55,21 @@ pub(crate) fn consider_place(
 ) -> Result<Placing, Refused>
     ensures { result ≡ place_plan (joined numbers rows.now crew.now) p log.now newest.now versions }
 {
-    let wrong_length = moment::is_wrong_for_place(numbers, newest.len(), versions);
+    let wrong_length = numbers.is_wrong_for_place(newest.len(), versions);
     refuse_if(wrong_length, Refusal::WrongParameter, 0)?;
     let wrong = range::are_wrong(rows, crew, numbers);
     refuse_if(
-        range::is_out_of_range(numbers, wrong),
+        numbers.is_out_of_range(wrong),
         Refusal::StateOutOfRange,
         0,
     )?;
-    refuse_if(moment::is_not_planning(numbers), Refusal::WrongMoment, 0)?;
+    refuse_if(numbers.is_not_planning(), Refusal::WrongMoment, 0)?;
     refuse_if(
         usize::from(numbers.partitions) <= p,
         Refusal::NoSuchParty,
         0,
     )?;
-    let transaction = placed_by(numbers, p);
+    let transaction = numbers.placed_by(p);
     refuse_if(transaction == numbers.size, Refusal::PartitionDone, 0)?;
     let length = 88 * usize::from(numbers.size);
     refuse_if(log.len() != length, Refusal::WrongLength, 0)?;
@@ -121,7 +102,7 @@ pub fn place(
             place_writes(newest, versions, plan);
             Counted {
                 answer: Answer::Accepted,
-                numbers: with_placed(numbers, party, plan.count),
+                numbers: numbers.with_placed(party, plan.count),
             }
         }
         Err(why) => Counted {

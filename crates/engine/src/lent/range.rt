@@ -9,7 +9,7 @@ ghost use Rattle.engine.specs.Range.{numbers_wrong, placed_wrong, worker_wrong, 
 use crate::lent::Numbers;
 use crate::lent::crew::worker_at;
 use crate::lent::transactions::row_at;
-use crate::{Progress, Row, Worker, rows as single, workers};
+use crate::{Progress, Row, Worker};
 
 // "Executing by a worker that does not hold it"
 fn is_not_held(crew: &[Worker], i: usize, row: Row) -> bool
@@ -18,7 +18,7 @@ fn is_not_held(crew: &[Worker], i: usize, row: Row) -> bool
     match row.progress {
         Progress::Executing(w) => {
             let worker = worker_at(crew, usize::from(w));
-            !((w < 8) & !workers::is_idle(worker) & (usize::from(worker.transaction) == i))
+            !((w < 8) & !worker.is_idle() & (usize::from(worker.transaction) == i))
         }
         Progress::Unprocessed | Progress::Complete(_) => false,
     }
@@ -60,11 +60,11 @@ impl Numbers {
     fn is_wrong_worker(self, rows: &[Row], w: usize, worker: Worker) -> bool
         ensures { result ≡ wrong_among self.workers self.size rows.now w worker }
     {
-        !workers::is_idle(worker)
+        !worker.is_idle()
             && ((usize::from(self.workers) <= w)
                 | (self.size <= worker.transaction)
-                | workers::has_count_above(worker)
-                | !single::is_executing_by(row_at(rows, usize::from(worker.transaction)), w))
+                | worker.has_count_above()
+                | !row_at(rows, usize::from(worker.transaction)).is_executing_by(w))
     }
 
     // The transactions of the batch, and never more than there are.
@@ -107,18 +107,4 @@ pub(crate) fn are_wrong(rows: &[Row], crew: &[Worker], numbers: Numbers) -> bool
         || some_below 64 (row_wrong (joined numbers rows.now crew.now))) }
 {
     has_wrong_worker(rows, crew, numbers) | has_wrong_row(rows, crew, numbers)
-}
-
-// 14, with what it says of the transactions and the workers.
-pub(crate) fn is_out_of_range(numbers: Numbers, wrong: bool) -> bool
-    ensures { result ≡ out_of_range_by numbers wrong }
-{
-    numbers.is_out_of_range(wrong)
-}
-
-// The transactions of the batch, and never more than there are.
-pub(crate) fn all_transactions(numbers: Numbers) -> usize
-    ensures { result ≡ few_of numbers.size }
-{
-    numbers.transactions()
 }

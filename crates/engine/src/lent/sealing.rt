@@ -7,16 +7,16 @@ ghost use Rattle.engine.specs.Moment.{row_unfinished};
 ghost use Rattle.engine.specs.Seal.{closed, seal_of};
 
 use crate::lent::transactions::row_at;
-use crate::lent::{Counted, Numbers, moment, range};
-use crate::{Answer, Row, Worker, rows as single};
+use crate::lent::{Counted, Numbers, range};
+use crate::{Answer, Row, Worker};
 use terms::{BatchNumber, NO_SLOT, Position, Refusal, Refused, refuse_if};
 use versions::{Version, clear, collect, newest_sound};
 
 pub(crate) fn has_unfinished(rows: &[Row], numbers: Numbers) -> bool
     ensures { result ≡ some_below 64 (row_unfinished (joined numbers rows.now [])) }
 {
-    for i in 0..range::all_transactions(numbers) {
-        if !single::is_complete(row_at(rows, i)) {
+    for i in 0..numbers.transactions() {
+        if !row_at(rows, i).is_complete() {
             return true;
         }
     }
@@ -36,22 +36,20 @@ pub(crate) fn consider_seal(
 ) -> Result<Numbers, Refused>
     ensures { result ≡ seal_plan (joined numbers rows.now crew.now) records.now newest.now versions.now }
 {
-    let wrong_length = moment::is_wrong_for_seal(
-        numbers,
-        records.len(),
+    let wrong_length = numbers.is_wrong_for_seal(records.len(),
         newest.len(),
         versions.len(),
     );
     refuse_if(wrong_length, Refusal::WrongParameter, 0)?;
     let wrong = range::are_wrong(rows, crew, numbers);
     refuse_if(
-        range::is_out_of_range(numbers, wrong),
+        numbers.is_out_of_range(wrong),
         Refusal::StateOutOfRange,
         0,
     )?;
     let unfinished = has_unfinished(rows, numbers);
     refuse_if((numbers.size == 0) | unfinished, Refusal::WrongMoment, 0)?;
-    let sound = newest_sound(versions, newest, moment::slots(numbers));
+    let sound = newest_sound(versions, newest, numbers.slots());
     refuse_if(!sound, Refusal::BrokenTables, 0)?;
     Ok(Numbers {
         next: Position(numbers.next.0 + u64::from(numbers.size)),

@@ -15,7 +15,7 @@ pub returns-then-not-is_complete : goal.returns-then-not-is_complete
 returns-then-not-is_complete c =
     sym
     (found_below (few_of c.args.numbers.size) (λ i. not (is_complete (row_of c.args.rows.now i))) c.loop-i.i
-    (rw (← c.all_transactions-i-end.ensures) c.loop-i-test.true)
+    (rw (← c.transactions-i-end.ensures) c.loop-i-test.true)
     (rw (← c.row_at.ensures, ← c.is_complete.ensures, c.if-not-is_complete.true) refl))
     ∙ unfinished_told c.args.numbers c.args.rows.now []
 
@@ -26,8 +26,8 @@ loop-i-preserved c =
 
 pub returns : goal.returns
 returns c =
-    let last : c.loop-i.i ≡ c.all_transactions-i-end.result = omega arith in
+    let last : c.loop-i.i ≡ c.transactions-i-end.result = omega arith in
     sym c.loop-i.invariant
     ∙ ap (λ k. some_below k (λ i. not (is_complete (row_of c.args.rows.now i))))
-    (last ∙ c.all_transactions-i-end.ensures)
+    (last ∙ c.transactions-i-end.ensures)
     ∙ unfinished_told c.args.numbers c.args.rows.now []
