@@ -1,6 +1,5 @@
 -- Laws of claiming.
-use Rattle.std.specs.Prelude.{ℕ, ◌<◌, Bool, false, ◌≡◌, leb, not, Result, Ok}
-use Rattle.std.proofs.Common.{sym, ◌∙◌, arith, leb-false}
+use Rattle.std.specs.Prelude.{ℕ, not, Result, Ok}
 use Rattle.terms.specs.Refusals.{refuse_if, Verdict}
 use Rattle.terms.specs.declared.refusal.Refused.{Refused}
 use Rattle.terms.specs.declared.refusal.Refusal.TheVariants.{
@@ -10,10 +9,8 @@ use Rattle.terms.specs.declared.refusal.Refusal.TheVariants.{
   NotUnprocessed,
   StateOutOfRange,
 }
-use Rattle.packed.specs.LawsForm.{not_left, not_right}
 use Rattle.engine.specs.Claim.{no_such_claim}
 use Rattle.engine.specs.LawsPlan.{if_accepted}
-use Rattle.engine.specs.LawsRange.{in_range}
 use Rattle.engine.specs.Moment.{not_running}
 use Rattle.engine.specs.Range.{row_at, worker_at, out_of_range}
 use Rattle.engine.specs.Rows.{row, is_unprocessed}

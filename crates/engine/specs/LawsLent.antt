@@ -1,20 +1,18 @@
 -- Refusal 14 as it is looked for in lent transactions and workers.
 use Rattle.std.specs.Prelude.{ℕ, zero, suc, ◌+◌, ◌≤◌, Bool, true, false, ◌&&◌, ◌||◌, not}
-use Rattle.std.specs.Prelude.{List, [], ◌∷◌, ◌≡◌, refl, ltb, eqb, get_or, min, replicate, take}
+use Rattle.std.specs.Prelude.{List, [], ◌∷◌, ◌≡◌, refl, ltb, eqb, get_or, min, take}
 use Rattle.std.specs.List.{enumerate_from, list_any}
-use Rattle.std.proofs.Common.{sym, ap, ◌∙◌, arith}
+use Rattle.std.proofs.Common.{ap, ◌∙◌, arith}
 use Rattle.terms.specs.Reserved.{no_end}
 use Rattle.engine.specs.Counting.{some_below}
 use Rattle.engine.specs.LawsCounting.{same_below, any_first}
 use Rattle.engine.specs.LawsHeld.{wrong_among, few_of, all_rows}
-use Rattle.engine.specs.LawsRange.{InRange, in_range}
 use Rattle.engine.specs.Lent.{unprocessed, row_of, worker_of, joined}
 use Rattle.engine.specs.Range.{no_worker, numbers_wrong, placed_wrong, worker_wrong, not_held, row_wrong, out_of_range}
 use Rattle.engine.specs.Workers.{is_idle, idle_worker}
 use Rattle.engine.specs.declared.Progress.{Progress}
 use Rattle.engine.specs.declared.Progress.TheVariants.{Unprocessed, Executing, Complete}
 use Rattle.engine.specs.declared.Row.{Row}
-use Rattle.engine.specs.declared.State.{State}
 use Rattle.engine.specs.declared.Worker.{Worker}
 use Rattle.engine.specs.declared.lent.Numbers.{Numbers}
 

@@ -52,11 +52,7 @@ impl State {
         let wrong_length = numbers.is_wrong_for_opening(newest, versions, results);
         refuse_if(wrong_length, Refusal::WrongParameter, 0)?;
         let wrong = range::are_wrong(&self.rows, &self.crew, numbers);
-        refuse_if(
-            numbers.is_out_of_range(wrong),
-            Refusal::StateOutOfRange,
-            0,
-        )?;
+        refuse_if(numbers.is_out_of_range(wrong), Refusal::StateOutOfRange, 0)?;
         refuse_if(self.size != 0, Refusal::WrongMoment, 0)?;
         refuse_if(is_wrong_batch_length(log.len()), Refusal::WrongLength, 0)?;
         let count = log.len() / 88;

@@ -35,11 +35,7 @@ pub(crate) fn consider_advance(
         Refusal::WrongParameter,
         0,
     )?;
-    refuse_if(
-        numbers.is_out_of_range(wrong),
-        Refusal::StateOutOfRange,
-        0,
-    )?;
+    refuse_if(numbers.is_out_of_range(wrong), Refusal::StateOutOfRange, 0)?;
     refuse_if(numbers.is_not_running(), Refusal::WrongMoment, 0)?;
     refuse_if(usize::from(numbers.workers) <= w, Refusal::NoSuchParty, 0)?;
     refuse_if(worker.is_idle(), Refusal::WorkerBusyOrIdle, 0)?;

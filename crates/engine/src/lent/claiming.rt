@@ -29,22 +29,10 @@ pub(crate) fn consider_claim(
     ensures { result ≡ claim_plan (joined numbers rows.now crew.now) w i }
 {
     let wrong = range::are_wrong(rows, crew, numbers);
-    refuse_if(
-        numbers.is_out_of_range(wrong),
-        Refusal::StateOutOfRange,
-        0,
-    )?;
+    refuse_if(numbers.is_out_of_range(wrong), Refusal::StateOutOfRange, 0)?;
     refuse_if(numbers.is_not_running(), Refusal::WrongMoment, 0)?;
-    refuse_if(
-        numbers.has_no_such_claim(w, i),
-        Refusal::NoSuchParty,
-        0,
-    )?;
-    refuse_if(
-        !worker_at(crew, w).is_idle(),
-        Refusal::WorkerBusyOrIdle,
-        0,
-    )?;
+    refuse_if(numbers.has_no_such_claim(w, i), Refusal::NoSuchParty, 0)?;
+    refuse_if(!worker_at(crew, w).is_idle(), Refusal::WorkerBusyOrIdle, 0)?;
     refuse_if(
         !row_at(rows, i).is_unprocessed(),
         Refusal::NotUnprocessed,

@@ -58,11 +58,7 @@ pub(crate) fn consider_place(
     let wrong_length = numbers.is_wrong_for_place(newest.len(), versions);
     refuse_if(wrong_length, Refusal::WrongParameter, 0)?;
     let wrong = range::are_wrong(rows, crew, numbers);
-    refuse_if(
-        numbers.is_out_of_range(wrong),
-        Refusal::StateOutOfRange,
-        0,
-    )?;
+    refuse_if(numbers.is_out_of_range(wrong), Refusal::StateOutOfRange, 0)?;
     refuse_if(numbers.is_not_planning(), Refusal::WrongMoment, 0)?;
     refuse_if(
         usize::from(numbers.partitions) <= p,

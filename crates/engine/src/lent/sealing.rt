@@ -36,17 +36,10 @@ pub(crate) fn consider_seal(
 ) -> Result<Numbers, Refused>
     ensures { result ≡ seal_plan (joined numbers rows.now crew.now) records.now newest.now versions.now }
 {
-    let wrong_length = numbers.is_wrong_for_seal(records.len(),
-        newest.len(),
-        versions.len(),
-    );
+    let wrong_length = numbers.is_wrong_for_seal(records.len(), newest.len(), versions.len());
     refuse_if(wrong_length, Refusal::WrongParameter, 0)?;
     let wrong = range::are_wrong(rows, crew, numbers);
-    refuse_if(
-        numbers.is_out_of_range(wrong),
-        Refusal::StateOutOfRange,
-        0,
-    )?;
+    refuse_if(numbers.is_out_of_range(wrong), Refusal::StateOutOfRange, 0)?;
     let unfinished = has_unfinished(rows, numbers);
     refuse_if((numbers.size == 0) | unfinished, Refusal::WrongMoment, 0)?;
     let sound = newest_sound(versions, newest, numbers.slots());
