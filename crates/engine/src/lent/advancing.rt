@@ -9,7 +9,7 @@ use crate::advance::{Aim, fill_one, give_results};
 use crate::lent::entries::worker_at;
 use crate::lent::{Numbers, range};
 use crate::moves::Move;
-use crate::{Answer, Row, Worker};
+use crate::{Answer, Row, Worker, tables};
 use packed::unpack_at;
 use terms::{Refusal, Refused, refuse_if};
 use versions::Version;
