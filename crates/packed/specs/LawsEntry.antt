@@ -6,6 +6,7 @@ use Rattle.std.proofs.Common.{◌∙◌}
 use Rattle.std.proofs.lemmas.Bool.{not-true}
 use Rattle.terms.specs.Refusals.{refused}
 use Rattle.terms.specs.declared.refusal.Refusal.TheVariants.{
+  Malformed,
   NoSuchRecord,
   NotAscending,
   UndeclaredRead,
@@ -19,15 +20,14 @@ use Rattle.packed.specs.LawsRecords.{not_both}
 use Rattle.packed.specs.LawsSets.{sets_proper, in_sets, descends_somewhere, by_actions}
 use Rattle.packed.specs.Records.{some_action, uses_too_large, no_such_record, undeclared_read, undeclared_write}
 
-pub none_undeclared : (read write : Bool) → not (read || write) ≡ true → (read ≡ false) × (write ≡ false)
-none_undeclared read write none =
-    let neither = not-true (read || write) none in
-    (not_left read write neither, not_right read write neither)
+pub only_written : (read written : Bool) → (read || written) ≡ true → read ≡ false → written ≡ true
+only_written true written some none = not_both none
+only_written false written some none = some
 
-pub only_written : (read write : Bool) → not (read || write) ≡ false → read ≡ false → write ≡ true
-only_written true write some none = not_both none
-only_written false true some none = refl
-only_written false false some none = not_both some
+pub malformed_lem : (n transaction : ℕ) (b : List ℕ) → malformed b ≡ true
+    → refused Malformed transaction ≡ entry_verdict n transaction b
+unfolding entry_verdict
+malformed_lem n transaction b told = rw told
 
 module _ (n transaction : ℕ) (b : List ℕ) (formed : malformed b ≡ false) where
   pub no_such_record_lem : no_such_record n b ≡ true → refused NoSuchRecord transaction ≡ entry_verdict n transaction b

@@ -2,7 +2,7 @@
 ghost use Rattle.std.specs.Prelude.{◌≡◌, ◌+◌, ◌≤◌, length};
 ghost use Rattle.packed.specs.Decode.{action_of, row_at, decode, nothing};
 
-use crate::{Action, ActionRow, Transaction, fields};
+use crate::{Action, ActionRow, Entry, Transaction, fields};
 use fields::Fields;
 
 // The action of these fields; a kind outside 1 to 6 is none.
@@ -29,8 +29,7 @@ fn row_at(b: &[u8], at: usize) -> ActionRow
     ActionRow { action }
 }
 
-pub(crate) fn decoded(b: &[u8]) -> Transaction
-    requires { length b.now ≡ 88 }
+pub(crate) fn decoded(b: &Entry) -> Transaction
     ensures { result ≡ decode b.now }
 {
     let reads = fields::set_at(b, 4);

@@ -1,176 +1,162 @@
-// Refusals 5 to 8: the records of an entry that is not malformed. An action is judged by the table of kinds.
-ghost use Rattle.std.specs.Prelude.{◌≡◌, false, ◌≤◌, length};
-ghost use Rattle.packed.specs.Fields.{byte_at};
-ghost use Rattle.packed.specs.Records.{some_action, too_large, set_too_large, uses_too_large, no_such_record};
-ghost use Rattle.packed.specs.LawsSets.{set_proper, sets_proper};
-ghost use Rattle.packed.specs.Records.{unlisted, reads_unlisted, undeclared_read, writes_unlisted, undeclared_write};
+// Refusals 5 to 8: the records of an entry that is not malformed, as it means them. An action is judged by the table of
+// kinds.
+ghost use Rattle.std.specs.Prelude.{◌≡◌, ◌||◌, ◌&&◌, take, eqb};
+ghost use Rattle.std.specs.List.{list_any};
+ghost use Rattle.packed.specs.Encode.{fields_of};
+ghost use Rattle.packed.specs.LawsMeaning.{some_within, ascends_from};
+ghost use Rattle.packed.specs.LawsSets.{set_proper};
+ghost use Rattle.packed.specs.Records.{too_large, set_too_large, uses_too_large};
+ghost use Rattle.packed.specs.Records.{unlisted, reads_unlisted, writes_unlisted};
 
-use crate::fields;
-use fields::Fields;
+use crate::{Action, Transaction};
 
-// An undeclared record is read; where none is, one is written.
-#[derive(Clone, Copy)]
-pub(crate) struct Undeclared {
-    pub read: bool,
-    pub write: bool,
-}
-
-fn size(count: u8) -> usize
-    ensures { result ≡ count }
+// Of four places those within the count.
+fn within<T>(places: &[T; 4], count: u8) -> &[T]
+    ensures { result.now ≡ take count places.now }
 {
-    count as usize
+    &places[..usize::from(count).min(4)]
 }
 
 // "is N or more"
 fn too_large(number: u16, n: usize) -> bool
     ensures { result ≡ too_large n number }
 {
-    n <= number as usize
+    n <= usize::from(number)
 }
 
-fn set_too_large(set: [u16; 4], count: u8, n: usize) -> bool
-    ensures { result ≡ set_too_large n set count }
+fn some_too_large(records: &[u16], n: usize) -> bool
+    ensures { result ≡ list_any (too_large n) records.now }
 {
-    ((0 < count) & too_large(set[0], n))
-        | ((1 < count) & too_large(set[1], n))
-        | ((2 < count) & too_large(set[2], n))
-        | ((3 < count) & too_large(set[3], n))
+    records.iter().any(|&number| too_large(number, n))
 }
 
-fn uses_too_large(x: Fields, n: usize) -> bool
-    ensures { result ≡ uses_too_large n x }
+#[tactic(auto, using(crate::specs::LawsMeaning::any_within))]
+fn set_too_large(set: &[u16; 4], count: u8, n: usize) -> bool
+    ensures { result ≡ set_too_large n set.now count }
 {
-    let kind = x.kind;
-    match kind {
-        1 => too_large(x.r, n),
-        2 => too_large(x.r, n),
-        3 => too_large(x.r, n),
-        4 => too_large(x.s, n) | too_large(x.r, n),
-        5 => too_large(x.s, n) | too_large(x.r, n),
-        6 => too_large(x.r, n),
-        _ => false,
+    some_too_large(within(set, count), n)
+}
+
+#[tactic(auto, using(crate::specs::LawsRecords::or_same), unfolding(crate::specs::Kinds::uses_of))]
+fn uses_too_large(action: Action, n: usize) -> bool
+    ensures { result ≡ uses_too_large n (fields_of action) }
+{
+    match action {
+        Action::Nothing => false,
+        Action::Set { r, .. }
+        | Action::Add { r, .. }
+        | Action::Take { r, .. }
+        | Action::Floor { r, .. } => too_large(r, n),
+        Action::Copy { r, s } | Action::Move { r, s } => too_large(s, n) | too_large(r, n),
     }
 }
 
 // An action within the count uses a record that is N or more.
-pub(crate) fn action_too_large(b: &[u8], n: usize) -> bool
-    requires { (length b.now ≡ 88) × (byte_at b.now 2 ≤ 4) }
-    ensures { result ≡ some_action (uses_too_large n) b.now }
+pub(crate) fn action_too_large(t: &Transaction, n: usize) -> bool
+    ensures { result ≡ some_within (uses_too_large n) t.now }
 {
-    let count = size(b[2]);
-    let mut k: usize = 0;
-    while k < count {
-        if uses_too_large(fields::fields_at(b, 24 + 16 * k), n) {
-            return true;
-        }
-        k += 1;
-    }
-    false
+    within(&t.actions, t.actioncount)
+        .iter()
+        .any(|row| uses_too_large(row.action, n))
 }
 
 // Refusal 5.
-pub(crate) fn has_no_such_record(b: &[u8], n: usize) -> bool
-    requires { (length b.now ≡ 88) × (byte_at b.now 2 ≤ 4) }
-    ensures { result ≡ no_such_record n b.now }
+pub(crate) fn has_no_such_record(t: &Transaction, n: usize) -> bool
+    ensures { result
+        ≡ (set_too_large n t.now.reads t.now.readcount
+        || set_too_large n t.now.writes t.now.writecount
+        || some_within (uses_too_large n) t.now) }
 {
-    if set_too_large(fields::set_at(b, 4), b[0], n) {
-        return true;
-    }
-    if set_too_large(fields::set_at(b, 12), b[1], n) {
-        return true;
-    }
-    action_too_large(b, n)
+    set_too_large(&t.reads, t.readcount, n)
+        || set_too_large(&t.writes, t.writecount, n)
+        || action_too_large(t, n)
 }
 
-// The set ascends strictly to a last record below n, so that neither 5 nor 6 is met in it.
-fn set_proper(set: [u16; 4], count: u8, n: usize) -> bool
-    ensures { result ≡ set_proper n set count }
+// The records ascend strictly to a last one below n.
+fn ascends_below(records: &[u16], n: usize) -> bool
+    ensures { result ≡ ascends_from 0 records.now n }
 {
-    match count {
-        0 => true,
-        1 => !too_large(set[0], n),
-        2 => (set[0] < set[1]) & !too_large(set[1], n),
-        3 => (set[0] < set[1]) & (set[1] < set[2]) & !too_large(set[2], n),
-        _ => (set[0] < set[1]) & (set[1] < set[2]) & (set[2] < set[3]) & !too_large(set[3], n),
-    }
-}
-
-// Neither 5 nor 6 is met in the sets.
-pub(crate) fn sets_proper(b: &[u8], n: usize) -> bool
-    requires { length b.now ≡ 88 }
-    ensures { result ≡ sets_proper n b.now }
-{
-    if set_proper(fields::set_at(b, 4), b[0], n) {
-        set_proper(fields::set_at(b, 12), b[1], n)
-    } else {
-        false
-    }
-}
-
-// The record is not among the first `count` of a set; the first entry that is the record tells.
-fn is_unlisted(set: [u16; 4], count: u8, number: u16) -> bool
-    ensures { result ≡ unlisted set count number }
-{
-    if set[0] == number {
-        return count <= 0;
-    }
-    if set[1] == number {
-        return count <= 1;
-    }
-    if set[2] == number {
-        return count <= 2;
-    }
-    (set[3] != number) | (count <= 3)
-}
-
-fn reads_unlisted(x: Fields, set: [u16; 4], count: u8) -> bool
-    ensures { result ≡ reads_unlisted set count x }
-{
-    let kind = x.kind;
-    match kind {
-        1 => false,
-        2 => is_unlisted(set, count, x.r),
-        3 => is_unlisted(set, count, x.r),
-        4 => is_unlisted(set, count, x.s),
-        5 => is_unlisted(set, count, x.s) | is_unlisted(set, count, x.r),
-        6 => is_unlisted(set, count, x.r),
-        _ => false,
-    }
-}
-
-fn writes_unlisted(x: Fields, set: [u16; 4], count: u8) -> bool
-    ensures { result ≡ writes_unlisted set count x }
-{
-    let kind = x.kind;
-    match kind {
-        1 => is_unlisted(set, count, x.r),
-        2 => is_unlisted(set, count, x.r),
-        3 => is_unlisted(set, count, x.r),
-        4 => is_unlisted(set, count, x.r),
-        5 => is_unlisted(set, count, x.s) | is_unlisted(set, count, x.r),
-        6 => false,
-        _ => false,
-    }
-}
-
-// Which of the refusals 7 and 8 comes first: one pass over the actions within the count, which stops at a read.
-pub(crate) fn undeclared_by(b: &[u8]) -> Undeclared
-    requires { (length b.now ≡ 88) × (byte_at b.now 2 ≤ 4) }
-    ensures { (result.read ≡ undeclared_read b.now)
-        × (result.read ≡ false → result.write ≡ undeclared_write b.now) }
-{
-    let reads = fields::set_at(b, 4);
-    let writes = fields::set_at(b, 12);
-    let count = size(b[2]);
-    let mut write = false;
-    let mut k: usize = 0;
-    while k < count {
-        let x = fields::fields_at(b, 24 + 16 * k);
-        if reads_unlisted(x, reads, b[0]) {
-            return Undeclared { read: true, write };
+    let mut least = 0;
+    for &number in records {
+        if usize::from(number) < least {
+            return false;
         }
-        write = write | writes_unlisted(x, writes, b[1]);
-        k += 1;
+        least = usize::from(number) + 1;
     }
-    Undeclared { read: false, write }
+    least <= n
+}
+
+// Neither 5 nor 6 is met in the set.
+fn set_proper(set: &[u16; 4], count: u8, n: usize) -> bool
+    ensures { result ≡ set_proper n set.now count }
+{
+    ascends_below(within(set, count), n)
+}
+
+// Nor in both.
+pub(crate) fn sets_proper(t: &Transaction, n: usize) -> bool
+    ensures { result
+        ≡ (set_proper n t.now.reads t.now.readcount && set_proper n t.now.writes t.now.writecount) }
+{
+    set_proper(&t.reads, t.readcount, n) && set_proper(&t.writes, t.writecount, n)
+}
+
+fn lists(records: &[u16], number: u16) -> bool
+    ensures { result ≡ list_any (λ listed. eqb listed number) records.now }
+{
+    records.iter().any(|&listed| listed == number)
+}
+
+// The record is not declared.
+#[tactic(auto, using(crate::specs::LawsMeaning::any_within))]
+fn is_unlisted(set: &[u16; 4], count: u8, number: u16) -> bool
+    ensures { result ≡ unlisted set.now count number }
+{
+    !lists(within(set, count), number)
+}
+
+#[tactic(auto, unfolding(crate::specs::Kinds::uses_of))]
+fn reads_unlisted(action: Action, set: &[u16; 4], count: u8) -> bool
+    ensures { result ≡ reads_unlisted set.now count (fields_of action) }
+{
+    match action {
+        Action::Nothing | Action::Set { .. } => false,
+        Action::Add { r, .. } | Action::Take { r, .. } | Action::Floor { r, .. } => {
+            is_unlisted(set, count, r)
+        }
+        Action::Copy { s, .. } => is_unlisted(set, count, s),
+        Action::Move { r, s } => is_unlisted(set, count, s) | is_unlisted(set, count, r),
+    }
+}
+
+#[tactic(auto, unfolding(crate::specs::Kinds::uses_of))]
+fn writes_unlisted(action: Action, set: &[u16; 4], count: u8) -> bool
+    ensures { result ≡ writes_unlisted set.now count (fields_of action) }
+{
+    match action {
+        Action::Nothing | Action::Floor { .. } => false,
+        Action::Set { r, .. }
+        | Action::Add { r, .. }
+        | Action::Take { r, .. }
+        | Action::Copy { r, .. } => is_unlisted(set, count, r),
+        Action::Move { r, s } => is_unlisted(set, count, s) | is_unlisted(set, count, r),
+    }
+}
+
+// Refusal 7.
+pub(crate) fn has_undeclared_read(t: &Transaction) -> bool
+    ensures { result ≡ some_within (reads_unlisted t.now.reads t.now.readcount) t.now }
+{
+    within(&t.actions, t.actioncount)
+        .iter()
+        .any(|row| reads_unlisted(row.action, &t.reads, t.readcount))
+}
+
+// Refusal 8.
+pub(crate) fn has_undeclared_write(t: &Transaction) -> bool
+    ensures { result ≡ some_within (writes_unlisted t.now.writes t.now.writecount) t.now }
+{
+    within(&t.actions, t.actioncount)
+        .iter()
+        .any(|row| writes_unlisted(row.action, &t.writes, t.writecount))
 }
