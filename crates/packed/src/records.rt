@@ -1,7 +1,7 @@
 // Refusals 5 to 8: the records of an entry that is not malformed, as it means them. An action is judged by the table of
 // kinds.
 ghost use Rattle.std.specs.Prelude.{◌≡◌, ◌||◌, ◌&&◌, take, eqb};
-ghost use Rattle.std.specs.List.{list_any};
+ghost use Rattle.std.specs.List.{list_any, position};
 ghost use Rattle.packed.specs.Encode.{fields_of};
 ghost use Rattle.packed.specs.LawsMeaning.{some_within, ascends_from};
 ghost use Rattle.packed.specs.LawsSets.{set_proper};
@@ -101,18 +101,20 @@ pub(crate) fn sets_proper(t: &Transaction, n: usize) -> bool
     set_proper(&t.reads, t.readcount, n) && set_proper(&t.writes, t.writecount, n)
 }
 
-fn lists(records: &[u16], number: u16) -> bool
-    ensures { result ≡ list_any (λ listed. eqb listed number) records.now }
+fn place_in(set: &[u16; 4], number: u16) -> Option<usize>
+    ensures { result ≡ position (λ listed. eqb listed number) set.now }
 {
-    records.iter().any(|&listed| listed == number)
+    set.iter().position(|&listed| listed == number)
 }
 
-// The record is not declared.
-#[tactic(auto, using(crate::specs::LawsMeaning::any_within))]
+// The record is not declared: its first place in the set is not within the count, or there is none.
 fn is_unlisted(set: &[u16; 4], count: u8, number: u16) -> bool
     ensures { result ≡ unlisted set.now count number }
 {
-    !lists(within(set, count), number)
+    match place_in(set, number) {
+        Some(place) => usize::from(count) <= place,
+        None => true,
+    }
 }
 
 #[tactic(auto, unfolding(crate::specs::Kinds::uses_of))]
