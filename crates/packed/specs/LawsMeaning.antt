@@ -1,6 +1,6 @@
 -- Laws of refusals 5 to 8 in what an entry means: the places within a count are the first of four.
 use Rattle.std.specs.Prelude.{ℕ, zero, suc, ◌+◌, ◌*◌, ◌≤◌, ◌<◌, Bool, true, false, ◌&&◌, ◌||◌}
-use Rattle.std.specs.Prelude.{not, ◌≡◌, refl, List, [], ◌∷◌, leb, ltb, get_or, length, take, drop}
+use Rattle.std.specs.Prelude.{not, ◌≡◌, refl, List, [], ◌∷◌, leb, ltb, get_or, length, take, drop, Option, Some, None}
 use Rattle.std.specs.List.{list_any}
 use Rattle.std.proofs.Common.{arith, sym, ap, ◌∙◌, lt-ltb, le-ltb, drop-cons, drop_of_length-le, add-one}
 use Rattle.std.proofs.Common.{leb-true, leb-false, ltb-true, ltb-false}
@@ -14,15 +14,11 @@ use Rattle.packed.specs.LawsForm.{few_actions}
 use Rattle.packed.specs.LawsSets.{set_proper, sets_proper, proper_one, proper_two, proper_three, proper_four}
 use Rattle.packed.specs.Records.{any, too_large, uses_too_large, unlisted, reads_unlisted, writes_unlisted}
 use Rattle.packed.specs.Records.{some_of, some_action, set_too_large, no_such_record, undeclared_read, undeclared_write}
-use Rattle.packed.specs.declared.ActionRow.{ActionRow}
-use Rattle.packed.specs.declared.Transaction.{Transaction}
 use Rattle.packed.specs.declared.fields.Fields.{Fields}
+use Rattle.terms.specs.declared.refusal.Refusal.{Refusal}
+use Rattle.terms.specs.declared.refusal.Refusal.TheVariants.{UndeclaredRead, UndeclaredWrite}
 
--- ---- the actions within the count
--- a test holds of one of them
-abbrev pub some_within : (Fields → Bool) → Transaction → Bool
-some_within test t = list_any (λ (row : ActionRow). test (fields_of row.action)) (take t.actioncount t.actions)
-
+-- ---- the actions
 -- what an action reads and writes is not in its zero field
 abbrev made : ℕ → ℕ → ℕ → ℕ → Fields
 made kind r s c = record { kind = kind; r = r; s = s; c = c }
@@ -68,54 +64,14 @@ from_four : (a b c d : Bool) → (a || (b || (c || (d || false)))) ≡ (((a || b
 from_four true b c d = refl
 from_four false b c d = from_three b c d
 
--- of the actions of an entry such a test holds as it does of their fields
-pub within_entry : (test : Fields → Bool) → Kept test → (b : List ℕ) → byte_at b 2 ≤ 4
-    → some_within test (decode b) ≡ some_action test b
-unfolding decode some_of
-within_entry test kept b few = go (byte_at b 2) few
-  where
-    rows : List ActionRow
-    rows = (decode b).actions
+-- which of 7 and 8 comes first
+abbrev pub written_by : Bool → Option Refusal
+written_by true = Some UndeclaredWrite
+written_by false = None
 
-    go : (count : ℕ) → count ≤ 4
-        → list_any (λ (row : ActionRow). test (fields_of row.action)) (take count rows) ≡ some_of test b count
-    go zero most = refl
-    go (suc zero) most = simp kept (from_two false (test (fields_at b 24)))
-    go (suc (suc zero)) most = simp kept (from_two (test (fields_at b 24)) (test (fields_at b 40)))
-    go (suc (suc (suc zero))) most =
-        simp kept (from_three (test (fields_at b 24)) (test (fields_at b 40)) (test (fields_at b 56)))
-    go (suc (suc (suc (suc zero)))) most =
-        simp kept
-        (from_four (test (fields_at b 24)) (test (fields_at b 40)) (test (fields_at b 56)) (test (fields_at b 72)))
-    go (suc (suc (suc (suc (suc count))))) most = absurd (omega arith)
-
--- what a well-formed entry means, asked for 5 in its actions, 7 and 8
-module _ (b : List ℕ) (t : Transaction) (meant : t ≡ decode b) (formed : malformed b ≡ false) where
-  pub actions_too_large : (n : ℕ) → some_within (uses_too_large n) t ≡ some_action (uses_too_large n) b
-  actions_too_large n = rw meant (within_entry (uses_too_large n) (too_large_kept n) b (few_actions b formed))
-
-  pub reads_undeclared : some_within (reads_unlisted t.reads t.readcount) t ≡ undeclared_read b
-  unfolding undeclared_read decode
-  reads_undeclared =
-      let kept = reads_kept (set_at b 4) (byte_at b 0) in
-      rw meant (within_entry (reads_unlisted (set_at b 4) (byte_at b 0)) kept b (few_actions b formed))
-
-  pub writes_undeclared : some_within (writes_unlisted t.writes t.writecount) t ≡ undeclared_write b
-  unfolding undeclared_write decode
-  writes_undeclared =
-      let kept = writes_kept (set_at b 12) (byte_at b 1) in
-      rw meant (within_entry (writes_unlisted (set_at b 12) (byte_at b 1)) kept b (few_actions b formed))
-
-  pub none_such : (n : ℕ)
-      → (set_too_large n t.reads t.readcount || set_too_large n t.writes t.writecount
-      || some_within (uses_too_large n) t) ≡ no_such_record n b
-  unfolding no_such_record decode
-  none_such n = rw (actions_too_large n, meant)
-
-  pub proper_sets : (n : ℕ)
-      → (set_proper n t.reads t.readcount && set_proper n t.writes t.writecount) ≡ sets_proper n b
-  unfolding decode
-  proper_sets n = rw meant
+abbrev pub first_undeclared : Bool → Bool → Option Refusal
+first_undeclared true written = Some UndeclaredRead
+first_undeclared false written = written_by written
 
 -- ---- the records within the count of a set
 abbrev pub by_count : (ℕ → Bool) → List ℕ → ℕ → Bool

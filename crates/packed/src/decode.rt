@@ -1,5 +1,6 @@
 // What the bytes of an entry mean, proper or not.
 ghost use Rattle.std.specs.Prelude.{◌≡◌, ◌+◌, ◌≤◌, length};
+ghost use Rattle.packed.specs.Fields.{fields_at};
 ghost use Rattle.packed.specs.Decode.{action_of, row_at, decode, nothing};
 
 use crate::{Action, ActionRow, Entry, Transaction, fields};
@@ -21,12 +22,21 @@ fn action_of(x: Fields) -> Action
     }
 }
 
+// The action in the 16 bytes from `at` on.
+pub(crate) fn action_at(b: &[u8], at: usize) -> Action
+    requires { at + 16 ≤ length b.now }
+    ensures { result ≡ action_of (fields_at b.now at) }
+{
+    action_of(fields::fields_at(b, at))
+}
+
 fn row_at(b: &[u8], at: usize) -> ActionRow
     requires { at + 16 ≤ length b.now }
     ensures { result ≡ row_at b.now at }
 {
-    let action = action_of(fields::fields_at(b, at));
-    ActionRow { action }
+    ActionRow {
+        action: action_at(b, at),
+    }
 }
 
 pub(crate) fn decoded(b: &Entry) -> Transaction

@@ -1,14 +1,15 @@
-// Refusals 5 to 8: the records of an entry that is not malformed, as it means them. An action is judged by the table of
-// kinds.
-ghost use Rattle.std.specs.Prelude.{◌≡◌, ◌||◌, ◌&&◌, take, eqb};
+// Refusals 5 to 8: the records of an entry that is not malformed. An action is judged by the table of kinds.
+ghost use Rattle.std.specs.Prelude.{◌≡◌, ◌≤◌, take, eqb};
 ghost use Rattle.std.specs.List.{list_any, position};
 ghost use Rattle.packed.specs.Encode.{fields_of};
-ghost use Rattle.packed.specs.LawsMeaning.{some_within, ascends_from};
-ghost use Rattle.packed.specs.LawsSets.{set_proper};
-ghost use Rattle.packed.specs.Records.{too_large, set_too_large, uses_too_large};
-ghost use Rattle.packed.specs.Records.{unlisted, reads_unlisted, writes_unlisted};
+ghost use Rattle.packed.specs.Fields.{byte_at};
+ghost use Rattle.packed.specs.LawsMeaning.{first_undeclared, ascends_from};
+ghost use Rattle.packed.specs.LawsSets.{set_proper, sets_proper};
+ghost use Rattle.packed.specs.Records.{some_action, too_large, set_too_large, uses_too_large, no_such_record};
+ghost use Rattle.packed.specs.Records.{unlisted, reads_unlisted, undeclared_read, writes_unlisted, undeclared_write};
 
-use crate::{Action, Transaction};
+use crate::{Action, Entry, decode, fields};
+use terms::Refusal;
 
 // Of four places those within the count.
 fn within<T>(places: &[T; 4], count: u8) -> &[T]
@@ -52,24 +53,27 @@ fn uses_too_large(action: Action, n: usize) -> bool
 }
 
 // An action within the count uses a record that is N or more.
-pub(crate) fn action_too_large(t: &Transaction, n: usize) -> bool
-    ensures { result ≡ some_within (uses_too_large n) t.now }
+pub(crate) fn action_too_large(b: &Entry, n: usize) -> bool
+    requires { byte_at b.now 2 ≤ 4 }
+    ensures { result ≡ some_action (uses_too_large n) b.now }
 {
-    within(&t.actions, t.actioncount)
-        .iter()
-        .any(|row| uses_too_large(row.action, n))
+    for k in 0..usize::from(b[2]) {
+        if uses_too_large(decode::action_at(b, 24 + 16 * k), n) {
+            return true;
+        }
+    }
+    false
 }
 
 // Refusal 5.
-pub(crate) fn has_no_such_record(t: &Transaction, n: usize) -> bool
-    ensures { result
-        ≡ (set_too_large n t.now.reads t.now.readcount
-        || set_too_large n t.now.writes t.now.writecount
-        || some_within (uses_too_large n) t.now) }
+#[tactic(auto, unfolding(crate::specs::Records::no_such_record))]
+pub(crate) fn has_no_such_record(b: &Entry, n: usize) -> bool
+    requires { byte_at b.now 2 ≤ 4 }
+    ensures { result ≡ no_such_record n b.now }
 {
-    set_too_large(&t.reads, t.readcount, n)
-        || set_too_large(&t.writes, t.writecount, n)
-        || action_too_large(t, n)
+    let reads = fields::set_at(b, 4);
+    let writes = fields::set_at(b, 12);
+    set_too_large(&reads, b[0], n) || set_too_large(&writes, b[1], n) || action_too_large(b, n)
 }
 
 // The records ascend strictly to a last one below n.
@@ -94,11 +98,12 @@ fn set_proper(set: &[u16; 4], count: u8, n: usize) -> bool
 }
 
 // Nor in both.
-pub(crate) fn sets_proper(t: &Transaction, n: usize) -> bool
-    ensures { result
-        ≡ (set_proper n t.now.reads t.now.readcount && set_proper n t.now.writes t.now.writecount) }
+pub(crate) fn sets_proper(b: &Entry, n: usize) -> bool
+    ensures { result ≡ sets_proper n b.now }
 {
-    set_proper(&t.reads, t.readcount, n) && set_proper(&t.writes, t.writecount, n)
+    let reads = fields::set_at(b, 4);
+    let writes = fields::set_at(b, 12);
+    set_proper(&reads, b[0], n) && set_proper(&writes, b[1], n)
 }
 
 fn place_in(set: &[u16; 4], number: u16) -> Option<usize>
@@ -145,20 +150,22 @@ fn writes_unlisted(action: Action, set: &[u16; 4], count: u8) -> bool
     }
 }
 
-// Refusal 7.
-pub(crate) fn has_undeclared_read(t: &Transaction) -> bool
-    ensures { result ≡ some_within (reads_unlisted t.now.reads t.now.readcount) t.now }
+// Which of the refusals 7 and 8 comes first: one pass over the actions within the count, which stops at a read.
+pub(crate) fn undeclared(b: &Entry) -> Option<Refusal>
+    requires { byte_at b.now 2 ≤ 4 }
+    ensures { result ≡ first_undeclared (undeclared_read b.now) (undeclared_write b.now) }
 {
-    within(&t.actions, t.actioncount)
-        .iter()
-        .any(|row| reads_unlisted(row.action, &t.reads, t.readcount))
-}
-
-// Refusal 8.
-pub(crate) fn has_undeclared_write(t: &Transaction) -> bool
-    ensures { result ≡ some_within (writes_unlisted t.now.writes t.now.writecount) t.now }
-{
-    within(&t.actions, t.actioncount)
-        .iter()
-        .any(|row| writes_unlisted(row.action, &t.writes, t.writecount))
+    let reads = fields::set_at(b, 4);
+    let writes = fields::set_at(b, 12);
+    let mut found = None;
+    for k in 0..usize::from(b[2]) {
+        let action = decode::action_at(b, 24 + 16 * k);
+        if reads_unlisted(action, &reads, b[0]) {
+            return Some(Refusal::UndeclaredRead);
+        }
+        if writes_unlisted(action, &writes, b[1]) {
+            found = Some(Refusal::UndeclaredWrite);
+        }
+    }
+    found
 }

@@ -14,19 +14,15 @@ pub(crate) fn entry(b: &Entry, n: usize, index: usize) -> Result<Transaction, Re
     ensures { result ≡ read_where (entry_verdict n index b.now) (decode b.now) }
 {
     refuse_if(form::is_malformed(b), Refusal::Malformed, index)?;
-    let t = decode::decoded(b);
-    if !records::sets_proper(&t, n) {
-        refuse_if(records::has_no_such_record(&t, n), Refusal::NoSuchRecord, index)?;
+    if !records::sets_proper(b, n) {
+        refuse_if(records::has_no_such_record(b, n), Refusal::NoSuchRecord, index)?;
         return Err(Refusal::NotAscending.at(index));
     }
-    let read = records::has_undeclared_read(&t);
-    let written = records::has_undeclared_write(&t);
-    if read | written {
-        refuse_if(records::action_too_large(&t, n), Refusal::NoSuchRecord, index)?;
-        refuse_if(read, Refusal::UndeclaredRead, index)?;
-        return Err(Refusal::UndeclaredWrite.at(index));
+    if let Some(refusal) = records::undeclared(b) {
+        refuse_if(records::action_too_large(b, n), Refusal::NoSuchRecord, index)?;
+        return Err(refusal.at(index));
     }
-    Ok(t)
+    Ok(decode::decoded(b))
 }
 
 // "N from 1 to 1,024": it is not.
