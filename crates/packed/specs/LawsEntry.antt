@@ -1,9 +1,8 @@
 -- The verdict of an entry in the code's order: 4, then 5 and 6 in the sets, then what is undeclared, and 5 in the
 -- actions only where something is.
-use Rattle.std.specs.Prelude.{ℕ, Bool, true, ◌||◌, not, ◌≡◌, refl, List, Ok, Option, Some, None}
+use Rattle.std.specs.Prelude.{ℕ, Bool, true, ◌≡◌, refl, List, Ok, Some, None}
 use Rattle.std.proofs.Math.Bool.{false}
 use Rattle.std.proofs.Common.{◌∙◌}
-use Rattle.std.proofs.lemmas.Bool.{not-true}
 use Rattle.terms.specs.Refusals.{refused}
 use Rattle.terms.specs.declared.refusal.Refusal.{Refusal}
 use Rattle.terms.specs.declared.refusal.Refusal.TheVariants.{
@@ -15,10 +14,8 @@ use Rattle.terms.specs.declared.refusal.Refusal.TheVariants.{
 }
 use Rattle.packed.specs.Checks.{entry_verdict}
 use Rattle.packed.specs.Form.{malformed}
-use Rattle.packed.specs.LawsForm.{not_left, not_right}
 use Rattle.packed.specs.LawsMeaning.{first_undeclared}
 use Rattle.packed.specs.LawsListed.{declared_below}
-use Rattle.packed.specs.LawsRecords.{not_both}
 use Rattle.packed.specs.LawsSets.{sets_proper, in_sets, descends_somewhere, by_actions}
 use Rattle.packed.specs.Records.{some_action, uses_too_large, no_such_record, undeclared_read, undeclared_write}
 

@@ -1,19 +1,15 @@
 -- Laws of refusals 5 to 8 in what an entry means: the places within a count are the first of four.
-use Rattle.std.specs.Prelude.{ℕ, zero, suc, ◌+◌, ◌*◌, ◌≤◌, ◌<◌, Bool, true, false, ◌&&◌, ◌||◌}
+use Rattle.std.specs.Prelude.{ℕ, zero, suc, ◌+◌, ◌≤◌, ◌<◌, Bool, true, false, ◌&&◌, ◌||◌}
 use Rattle.std.specs.Prelude.{not, ◌≡◌, refl, List, [], ◌∷◌, leb, ltb, get_or, length, take, drop, Option, Some, None}
 use Rattle.std.specs.List.{list_any}
-use Rattle.std.proofs.Common.{arith, sym, ap, ◌∙◌, lt-ltb, le-ltb, drop-cons, drop_of_length-le, add-one}
+use Rattle.std.proofs.Common.{arith, ap, ◌∙◌, lt-ltb, le-ltb, drop-cons, drop_of_length-le, add-one}
 use Rattle.std.proofs.Common.{leb-true, leb-false, ltb-true, ltb-false}
 use Rattle.std.proofs.lemmas.Bool.{lt-leb, le-leb}
-use Rattle.packed.specs.Decode.{action_of, decode}
+use Rattle.packed.specs.Decode.{action_of}
 use Rattle.packed.specs.Encode.{fields_of}
-use Rattle.packed.specs.Fields.{byte_at, set_at, fields_at}
-use Rattle.packed.specs.Form.{malformed}
 use Rattle.packed.specs.Kinds.{uses_of}
-use Rattle.packed.specs.LawsForm.{few_actions}
-use Rattle.packed.specs.LawsSets.{set_proper, sets_proper, proper_one, proper_two, proper_three, proper_four}
-use Rattle.packed.specs.Records.{any, too_large, uses_too_large, unlisted, reads_unlisted, writes_unlisted}
-use Rattle.packed.specs.Records.{some_of, some_action, set_too_large, no_such_record, undeclared_read, undeclared_write}
+use Rattle.packed.specs.LawsSets.{set_proper, proper_one, proper_two, proper_three, proper_four}
+use Rattle.packed.specs.Records.{uses_too_large, reads_unlisted, writes_unlisted}
 use Rattle.packed.specs.declared.fields.Fields.{Fields}
 use Rattle.terms.specs.declared.refusal.Refusal.{Refusal}
 use Rattle.terms.specs.declared.refusal.Refusal.TheVariants.{UndeclaredRead, UndeclaredWrite}

@@ -154,7 +154,7 @@ unfolding unpack_of verdict_of
 whole n bytes None short =
     answered_where (verdict_of n 0 true []) (decode [])
     ∙ rw (ne_eqb (length bytes) 88 short)
-      (missing (wrong_record_count n) 0 (entry_verdict n 0 []) (entry_verdict n 0 bytes) (decode []) (decode bytes))
+    (missing (wrong_record_count n) 0 (entry_verdict n 0 []) (entry_verdict n 0 bytes) (decode []) (decode bytes))
 whole n bytes (Some entry) found =
     answered_where (verdict_of n 0 false entry.now) (decode entry.now)
     ∙ rw (found.same, eq-eqb (length bytes) 88 found.long)
@@ -177,8 +177,8 @@ unfolding unpack_at_of verdict_of
 in_log n index log None found count =
     answered_where (verdict_of n index true []) (decode [])
     ∙ rw (le-leb (length log / 88) index (omega (arith, found, count)))
-      (missing (wrong_record_count n) index (entry_verdict n index []) (entry_verdict n index (entry_of log index))
-      (decode []) (decode (entry_of log index)))
+    (missing (wrong_record_count n) index (entry_verdict n index []) (entry_verdict n index (entry_of log index))
+    (decode []) (decode (entry_of log index)))
 in_log n index log (Some entry) found count =
     let within : index < length log / 88 = omega (arith, found.3.0, count) in
     let told : entry.now ≡ entry_of log index =

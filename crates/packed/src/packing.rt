@@ -9,7 +9,11 @@ use terms::{Refusal, Verdict, refuse_if};
 pub fn pack(meaning: Transaction, n: usize, buffer: &mut [u8]) -> Verdict
     ensures { packed result buffer.new ≡ pack_of n meaning buffer.old }
 {
-    refuse_if(unpacking::is_wrong_record_count(n), Refusal::WrongParameter, 0)?;
+    refuse_if(
+        unpacking::is_wrong_record_count(n),
+        Refusal::WrongParameter,
+        0,
+    )?;
     refuse_if(buffer.len() != 88, Refusal::WrongLength, 0)?;
     let b = encode::encoded(meaning);
     unpacking::entry(&b, n, 0)?;

@@ -15,11 +15,19 @@ pub(crate) fn entry(b: &Entry, n: usize, index: usize) -> Result<Transaction, Re
 {
     refuse_if(form::is_malformed(b), Refusal::Malformed, index)?;
     if !records::sets_proper(b, n) {
-        refuse_if(records::has_no_such_record(b, n), Refusal::NoSuchRecord, index)?;
+        refuse_if(
+            records::has_no_such_record(b, n),
+            Refusal::NoSuchRecord,
+            index,
+        )?;
         return Err(Refusal::NotAscending.at(index));
     }
     if let Some(refusal) = records::undeclared(b) {
-        refuse_if(records::action_too_large(b, n), Refusal::NoSuchRecord, index)?;
+        refuse_if(
+            records::action_too_large(b, n),
+            Refusal::NoSuchRecord,
+            index,
+        )?;
         return Err(refusal.at(index));
     }
     Ok(decode::decoded(b))

@@ -1,4 +1,4 @@
-use Rattle.std.proofs.Common.{sym, ap, ◌∙◌, ◌≡◌, Some, None}
+use Rattle.std.proofs.Common.{ap, ◌∙◌}
 use Rattle.packed.specs.LawsListed.{past, unlisted_past}
 use Rattle.packed.proofs.records.is_unlisted.Goals as goal
 

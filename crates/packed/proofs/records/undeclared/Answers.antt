@@ -32,17 +32,17 @@ loop-k-preserved c =
     record {
       none_read = none_more _ _ k c.loop-k.invariant.none_read refl read c.if-reads_unlisted.false;
       written =
-      elim c.if-writes_unlisted.branch [
-          then-writes_unlisted w ↦
-            w.found-is
-            ∙ ap written_by
-              (sym (or_true so_far) ∙ ap (λ a. so_far || a) (sym w.if-writes_unlisted.true) ∙ joined)
-        | else-writes_unlisted w ↦
-            w.found-is
-            ∙ c.loop-k.invariant.written
-            ∙ ap written_by
-              (or_false so_far ∙ ap (λ a. so_far || a) (sym w.if-writes_unlisted.false) ∙ joined)
-      ];
+          elim c.if-writes_unlisted.branch [
+            | then-writes_unlisted w ↦
+                w.found-is
+                ∙ ap written_by
+                (sym (or_true so_far) ∙ ap (λ a. so_far || a) (sym w.if-writes_unlisted.true) ∙ joined)
+            | else-writes_unlisted w ↦
+                w.found-is
+                ∙ c.loop-k.invariant.written
+                ∙ ap written_by
+                (or_false so_far ∙ ap (λ a. so_far || a) (sym w.if-writes_unlisted.false) ∙ joined)
+          ];
     }
 
 pub returns : goal.returns

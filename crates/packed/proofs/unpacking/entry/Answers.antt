@@ -75,7 +75,7 @@ returns-in-Some c =
     let small = sym c.action_too_large.ensures ∙ passes _ _ c.refuse_if-in-Some.ensures c.in_ok-refuse_if-3.was in
     ap Err c.at-in-Some.ensures
     ∙ ap (λ v. read_where v (decode b))
-      (undeclared_lem c.args.n c.args.index b told proper c.in-Some.refusal small c.in-Some.ensures)
+    (undeclared_lem c.args.n c.args.index b told proper c.in-Some.refusal small c.in-Some.ensures)
 
 pub returns : goal.returns
 returns c =
