@@ -11,8 +11,7 @@ use fields::Fields;
 fn action_of(x: Fields) -> Action
     ensures { result ≡ action_of x }
 {
-    let kind = x.kind;
-    match kind {
+    match x.kind {
         1 => Action::Set { r: x.r, c: x.c },
         2 => Action::Add { r: x.r, c: x.c },
         3 => Action::Take { r: x.r, c: x.c },
