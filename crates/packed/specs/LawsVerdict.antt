@@ -1,5 +1,6 @@
 -- What an accepting verdict says.
-use Rattle.std.specs.Prelude.{Option, Some, None, not, [], length, get_or, take, drop, zero, suc, ◌+◌, ◌*◌, ◌/◌, ◌<◌, ◌≢◌}
+use Rattle.std.specs.Prelude.{Option, Some, None, not, [], length, get_or, take}
+use Rattle.std.specs.Prelude.{drop, zero, suc, ◌+◌, ◌*◌, ◌/◌, ◌<◌, ◌≢◌}
 use Rattle.std.proofs.Common.{Bor}
 use Rattle.std.specs.Prelude.{ℕ, Bool, true, false, ◌≡◌, refl, List, Result, Ok, Err}
 use Rattle.std.proofs.Common.{arith, sym, ap, ◌∙◌}

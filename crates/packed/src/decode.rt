@@ -6,8 +6,8 @@ ghost use Rattle.packed.specs.Decode.{action_of, row_at, decode, nothing};
 use crate::{Action, ActionRow, Entry, Transaction, fields};
 use fields::Fields;
 
-// The action of these fields; a kind outside 1 to 6 is none. Here and in `encode` alone a kind is its number in the bytes:
-// an enum of kinds would be a second list of the cases of `Action`.
+// The action of these fields; a kind outside 1 to 6 is none. Here and in `encode` a kind is its number in the bytes: an
+// enum of kinds would be a second list of the cases of `Action`.
 fn action_of(x: Fields) -> Action
     ensures { result ≡ action_of x }
 {

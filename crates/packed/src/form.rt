@@ -1,6 +1,6 @@
 // Refusal 4: "a count above 4, a kind outside 1–6 within the count, or a byte that must be zero is not". Eight bytes
-// are looked at as one number, in which a kind is a number too: the bytes from some place on are zero where the number is
-// below a power of 256. Looked at one by one they took over 1.3 times as many instructions as C does
+// are looked at as one number, in which a kind is a number too: the bytes from some place on are zero where the number
+// is below a power of 256. Looked at one by one they took over 1.3 times as many instructions as C does
 // (docs/PERFORMANCE.md, "Unpacking one entry").
 ghost use Rattle.std.specs.Prelude.{◌≡◌, ◌+◌, ◌≤◌, length};
 ghost use Rattle.packed.specs.Fields.{set_at};

@@ -8,8 +8,8 @@ ghost use Rattle.packed.specs.Unpacking.{unpack_of, unpack_at_of};
 use crate::{Entry, Transaction, Unpacked, decode, form, records};
 use terms::{Refusal, Refused, refuse_if};
 
-// What one entry means, where checks 4 to 8 accept it. An action whose records are all declared in proper sets uses none
-// that is N or more: where nothing is undeclared, check 5 is not made of the actions.
+// What one entry means, where checks 4 to 8 accept it. An action whose records are all declared in proper sets uses
+// none that is N or more: where nothing is undeclared, check 5 is not made of the actions.
 pub(crate) fn entry(b: &Entry, n: usize, index: usize) -> Result<Transaction, Refused>
     ensures { result ≡ read_where (entry_verdict n index b.now) (decode b.now) }
 {
