@@ -1,7 +1,8 @@
 -- Each contract determines its function's result: two results that satisfy it are equal.
 use Rattle.std.specs.Prelude.{ℕ, Bool, ◌≡◌, eqb, Ok}
 use Rattle.std.proofs.Common.{sym, ◌∙◌}
-use Rattle.terms.specs.Refusals.{number_of, place_of, Verdict, refused_at, refuse_if, verdict_number, verdict_place}
+use Rattle.terms.specs.Refusals.{number_of, place_of, Verdict, refused_at, refused, refuse_if}
+use Rattle.terms.specs.Refusals.{verdict_number, verdict_place}
 use Rattle.terms.specs.Reserved.{no_slot, no_end}
 use Rattle.terms.specs.declared.refusal.Place.{Place}
 use Rattle.terms.specs.declared.refusal.Refusal.{Refusal}
@@ -21,6 +22,10 @@ of_unique refusal transaction a b = same
 pub at_unique : (refusal : Refusal) (transaction : ℕ) (a b : Refused)
     → a ≡ refused_at refusal transaction → b ≡ refused_at refusal transaction → a ≡ b
 at_unique refusal transaction a b = same
+
+pub refuse_unique : (refusal : Refusal) (transaction : ℕ) (a b : Verdict)
+    → a ≡ refused refusal transaction → b ≡ refused refusal transaction → a ≡ b
+refuse_unique refusal transaction a b = same
 
 pub refuse_if_unique : (fault : Bool) (refusal : Refusal) (transaction : ℕ) (a b : Verdict)
     → a ≡ refuse_if fault refusal transaction (Ok tt) → b ≡ refuse_if fault refusal transaction (Ok tt) → a ≡ b
