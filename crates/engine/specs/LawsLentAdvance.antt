@@ -16,8 +16,9 @@ use Rattle.versions.specs.declared.Version.{Version}
 use Rattle.engine.specs.Advance.{Advanced, wrong_for_advance, work_fits, answer_of, with_filled, with_results}
 use Rattle.engine.specs.Advance.{advance_verdict, move_of, with_left, carried_out, advanced_when, advance_of}
 use Rattle.engine.specs.Counting.{some_below}
-use Rattle.engine.specs.LawsAdvance.{aim_at, aim_when, move_when, answered, rows_by, crew_by, versions_by, results_by, decided}
-use Rattle.engine.specs.LawsAdvance.{advance_answer, advance_rows, advance_crew, advance_versions, advance_results}
+use Rattle.engine.specs.LawsAdvance.{aim_at, aim_when, move_when, answered, rows_by, crew_by, versions_by, results_by}
+use Rattle.engine.specs.LawsAdvance.{decided, advance_answer, advance_rows, advance_crew}
+use Rattle.engine.specs.LawsAdvance.{advance_versions, advance_results}
 use Rattle.engine.specs.LawsLent.{out_of_range_by, range_told, position_by, position_within}
 use Rattle.engine.specs.LawsRange.{in_range, holds_below}
 use Rattle.engine.specs.Lent.{worker_of, joined, numbers_of}

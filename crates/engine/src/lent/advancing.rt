@@ -10,7 +10,7 @@ use crate::lent::crew::{put_worker, worker_at};
 use crate::lent::transactions::put_row;
 use crate::lent::{Numbers, moment, range};
 use crate::moves::Move;
-use crate::{Answer, Row, Worker, tables};
+use crate::{Answer, Row, Worker};
 use packed::unpack_at;
 use terms::{Refusal, Refused, refuse_if};
 use versions::Version;
@@ -30,24 +30,15 @@ pub(crate) fn consider_advance(
 ) -> Result<Aim, Refused>
     ensures { result ≡ aim_by wrong numbers w worker log.now newest records versions results }
 {
-    refuse_if(
-        moment::is_wrong_for_advance(numbers, records, newest, versions, results),
-        Refusal::WrongParameter,
-        0,
-    )?;
-    refuse_if(
-        range::is_out_of_range(numbers, wrong),
-        Refusal::StateOutOfRange,
-        0,
-    )?;
+    let wrong_table = moment::is_wrong_for_advance(numbers, records, newest, versions, results);
+    refuse_if(wrong_table, Refusal::WrongParameter, 0)?;
+    let out_of_range = range::is_out_of_range(numbers, wrong);
+    refuse_if(out_of_range, Refusal::StateOutOfRange, 0)?;
     refuse_if(moment::is_not_running(numbers), Refusal::WrongMoment, 0)?;
     refuse_if(usize::from(numbers.workers) <= w, Refusal::NoSuchParty, 0)?;
     refuse_if(worker.is_idle(), Refusal::WorkerBusyOrIdle, 0)?;
-    refuse_if(
-        tables::is_not_of(log.len(), 88 * usize::from(numbers.size)),
-        Refusal::WrongLength,
-        0,
-    )?;
+    let wrong_length = log.len() != 88 * usize::from(numbers.size);
+    refuse_if(wrong_length, Refusal::WrongLength, 0)?;
     let entry = unpack_at(
         log,
         usize::from(worker.transaction),
