@@ -49,7 +49,7 @@ verdict_by out s w worker log records newest versions results =
     (refuse_if (not_of (length log) (88 * s.size)) WrongLength 0 (work_fits s worker log))))))
 
 abbrev pub aim_by : Bool → Numbers → ℕ → Worker → List ℕ → ℕ → ℕ → ℕ → ℕ → Result Aim Refused
-aim_by wrong numbers w worker log newest records versions results =
+aim_by wrong numbers w worker log records newest versions results =
     aim_when
     (verdict_by (out_of_range_by numbers wrong) (joined numbers [] []) w worker log records newest versions results)
     (aim_at (joined numbers [] []) worker log (position_by numbers worker.transaction))
@@ -57,16 +57,8 @@ aim_by wrong numbers w worker log newest records versions results =
 unfoldable pub turn_with : Bool → Numbers → ℕ → Worker → List ℕ → List ℕ → List ℕ → List Version → ℕ
     → Result Move Refused
 turn_with wrong numbers w worker log records newest versions results =
-    move_when (aim_by wrong numbers w worker log (length newest) (length records) (length versions) results) records
+    move_when (aim_by wrong numbers w worker log (length records) (length newest) (length versions) results) records
     newest versions
-
-pub turn_with_lem : (wrong : Bool) (numbers : Numbers) (w : ℕ) (worker : Worker) (log records newest : List ℕ)
-    (versions : List Version) (results : ℕ)
-    → move_when (aim_by wrong numbers w worker log (length newest) (length records) (length versions) results) records
-    newest versions
-    ≡ turn_with wrong numbers w worker log records newest versions results
-unfolding turn_with
-turn_with_lem wrong numbers w worker log records newest versions results = refl
 
 -- ---- that is the definition
 module _ (numbers : Numbers) (rows : List Row) (crew : List Worker) (w : ℕ) (log records newest : List ℕ)

@@ -23,12 +23,12 @@ pub(crate) fn consider_advance(
     w: usize,
     worker: Worker,
     log: &[u8],
-    newest: usize,
     records: usize,
+    newest: usize,
     versions: usize,
     results: usize,
 ) -> Result<Aim, Refused>
-    ensures { result ≡ aim_by wrong numbers w worker log.now newest records versions results }
+    ensures { result ≡ aim_by wrong numbers w worker log.now records newest versions results }
 {
     let wrong_table = moment::is_wrong_for_advance(numbers, records, newest, versions, results);
     refuse_if(wrong_table, Refusal::WrongParameter, 0)?;
@@ -78,8 +78,8 @@ pub(crate) fn turn(
         party,
         worker,
         log,
-        newest.len(),
         records.len(),
+        newest.len(),
         versions.len(),
         four,
     )?;
