@@ -7,7 +7,7 @@ use Rattle.terms.specs.declared.refusal.Refused.{Refused}
 use Rattle.versions.specs.Chain.{walk_of}
 use Rattle.versions.specs.declared.Version.{Version}
 use Rattle.engine.specs.Acts.{act_of}
-use Rattle.engine.specs.Advance.{Advanced, advance_verdict, seen_of, move_by, move_of, with_left, answer_of}
+use Rattle.engine.specs.Advance.{Advanced, advance_verdict, seen_of, move_by, with_left, answer_of}
 use Rattle.engine.specs.Advance.{with_filled, with_results, carried_out, advanced_when, advance_of}
 use Rattle.engine.specs.Lent.{joined, numbers_of}
 use Rattle.engine.specs.Place.{meaning_at, position_of}

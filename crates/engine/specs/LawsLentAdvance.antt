@@ -1,6 +1,6 @@
 -- Laws of advancing with lent transactions and workers: the way that the code goes.
-use Rattle.std.specs.Prelude.{ℕ, zero, suc, ◌*◌, Bool, true, false, ◌||◌, Option, Some, None, Result, Ok, Err}
-use Rattle.std.specs.Prelude.{List, [], ◌∷◌, ◌≡◌, refl, leb, length, get_or, set}
+use Rattle.std.specs.Prelude.{ℕ, zero, suc, ◌*◌, Bool, true, false, ◌||◌, Result}
+use Rattle.std.specs.Prelude.{List, [], ◌∷◌, ◌≡◌, refl, leb, length, get_or}
 use Rattle.std.proofs.Common.{ap, ◌∙◌, arith, leb-false}
 use Rattle.terms.specs.Refusals.{refuse_if, Verdict}
 use Rattle.terms.specs.declared.refusal.Refusal.TheVariants.{
@@ -13,26 +13,22 @@ use Rattle.terms.specs.declared.refusal.Refusal.TheVariants.{
 }
 use Rattle.terms.specs.declared.refusal.Refused.{Refused}
 use Rattle.versions.specs.declared.Version.{Version}
-use Rattle.engine.specs.Advance.{Advanced, wrong_for_advance, work_fits, answer_of, with_filled, with_results}
-use Rattle.engine.specs.Advance.{advance_verdict, move_of, with_left, carried_out, advanced_when, advance_of}
+use Rattle.engine.specs.Advance.{wrong_for_advance, work_fits}
+use Rattle.engine.specs.Advance.{advance_verdict, advance_of}
 use Rattle.engine.specs.Counting.{some_below}
 use Rattle.engine.specs.LawsAdvance.{aim_at, aim_when, move_when, answered, rows_by, crew_by, versions_by, results_by}
 use Rattle.engine.specs.LawsAdvance.{decided, advance_answer, advance_rows, advance_crew}
 use Rattle.engine.specs.LawsAdvance.{advance_versions, advance_results}
 use Rattle.engine.specs.LawsLent.{out_of_range_by, range_told, position_by, position_within}
 use Rattle.engine.specs.LawsRange.{in_range, holds_below}
-use Rattle.engine.specs.Lent.{worker_of, joined, numbers_of}
+use Rattle.engine.specs.Lent.{worker_of, joined}
 use Rattle.engine.specs.Moment.{not_running}
-use Rattle.engine.specs.Place.{meaning_at, position_of}
+use Rattle.engine.specs.Place.{position_of}
 use Rattle.engine.specs.Range.{no_worker, worker_at, worker_wrong, row_wrong, out_of_range}
-use Rattle.engine.specs.States.{with_worker}
 use Rattle.engine.specs.Tables.{not_of}
 use Rattle.engine.specs.Workers.{is_idle}
-use Rattle.engine.specs.declared.Answer.{Answer}
-use Rattle.engine.specs.declared.Answer.TheVariants.{Refused as RefusedBy}
 use Rattle.engine.specs.declared.Row.{Row}
 use Rattle.engine.specs.declared.State.{State}
-use Rattle.engine.specs.declared.Stepped.{Stepped}
 use Rattle.engine.specs.declared.Worker.{Worker}
 use Rattle.engine.specs.declared.advance.Aim.{Aim}
 use Rattle.engine.specs.declared.lent.Numbers.{Numbers}
