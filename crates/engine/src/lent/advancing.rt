@@ -2,7 +2,7 @@
 ghost use Rattle.std.specs.Prelude.{◌≡◌, ◌*◌, set};
 ghost use Rattle.engine.specs.Advance.{advance_of, with_filled, with_results};
 ghost use Rattle.engine.specs.Lent.{joined};
-ghost use Rattle.engine.specs.LawsAdvance.{row_left};
+ghost use Rattle.engine.specs.LawsAdvance.{row_left, answered, rows_by, crew_by, versions_by, results_by};
 ghost use Rattle.engine.specs.LawsLentAdvance.{aim_by, turn_with};
 
 use crate::advance::{Aim, fill_one, give_results};
@@ -95,6 +95,34 @@ pub(crate) fn leave(rows: &mut [Row], transaction: u8, left: Option<Row>)
     }
 }
 
+// The answer, and what the advance changes; a refused one changes nothing.
+fn carry_out(
+    rows: &mut [Row],
+    crew: &mut [Worker],
+    party: usize,
+    transaction: u8,
+    versions: &mut [Version],
+    results: &mut [u64],
+    turn: Result<Move, Refused>,
+) -> Answer
+    ensures answer { result ≡ answered turn }
+    ensures rows { rows.new ≡ rows_by turn rows.old transaction }
+    ensures crew { crew.new ≡ crew_by turn crew.old party }
+    ensures versions { versions.new ≡ versions_by turn versions.old }
+    ensures results { results.new ≡ results_by turn results.old transaction }
+{
+    match turn {
+        Ok(step) => {
+            leave(rows, transaction, step.left);
+            put_worker(crew, party, step.worker);
+            fill_one(versions, step.fill);
+            give_results(results, transaction, step.results);
+            step.answer()
+        }
+        Err(why) => Answer::from(why),
+    }
+}
+
 // "One of: read the next declared read; with none left, decide; carry the next carried write; fill the next write."
 pub fn advance(
     rows: &mut [Row],
@@ -136,14 +164,13 @@ pub fn advance(
         versions,
         results.len(),
     );
-    match turn {
-        Ok(step) => {
-            leave(rows, worker.transaction, step.left);
-            put_worker(crew, party, step.worker);
-            fill_one(versions, step.fill);
-            give_results(results, worker.transaction, step.results);
-            step.answer()
-        }
-        Err(why) => Answer::from(why),
-    }
+    carry_out(
+        rows,
+        crew,
+        party,
+        worker.transaction,
+        versions,
+        results,
+        turn,
+    )
 }
