@@ -3,7 +3,6 @@
 #![tactic(auto)]
 
 mod counts;
-pub(crate) mod lending;
 mod offering;
 mod output;
 mod steps;
@@ -17,7 +16,7 @@ pub use output::{counts_of, make_for, opening_line, record_at, refusal_line, tra
 pub use text::{counts_line, not_sealed_line, record_line, refused_line, transaction_line};
 
 // "4 bytes a step: kind 1 place, 2 claim, 3 advance, 4 seal; party; 16-bit transaction, zero except for a claim"
-#[derive(Clone, Copy)]
+#[derive(Clone, Copy, Debug, PartialEq, Eq)]
 pub struct Step {
     pub kind: u8,
     pub party: u8,
@@ -25,7 +24,7 @@ pub struct Step {
 }
 
 // A line of the program's output: its first `length` bytes.
-#[derive(Clone, Copy)]
+#[derive(Clone, Copy, Debug, PartialEq, Eq)]
 pub struct Line {
     pub bytes: [u8; 128],
     pub length: usize,
