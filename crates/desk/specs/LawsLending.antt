@@ -114,33 +114,39 @@ seal_keeps s records newest versions =
     go (Ok tt) = (refl, refl)
     go (Err why) = (refl, refl)
 
--- ---- the counts do not depend on the state that was there before
+-- ---- counting in place, with the numbers beside the state
 abbrev Counts : Type 0
 Counts = Tally → Answer → State → Tally
 
-abbrev Forgets : Counts → Type 0
-Forgets count =
-    (tally : Tally) (answer : Answer) (before state : State)
-    → count (record tally { state = before }) answer state ≡ count tally answer state
+-- it makes no difference when the numbers are put in
+abbrev Apart : Counts → Type 0
+Apart count =
+    (tally : Tally) (rows : List Row) (crew : List Worker) (answer : Answer) (before numbers : Numbers)
+    → with_numbers (count (record tally { state = joined (numbers_of tally.state) rows crew }) answer
+    (joined (numbers_of tally.state) rows crew)) numbers
+    ≡ count (with_numbers tally before) answer (joined numbers rows crew)
 
-counted_forgets : Forgets counted
-counted_forgets tally Accepted before state = refl
-counted_forgets tally (Waits position) before state = refl
-counted_forgets tally (Refused refusal place) before state = refl
+counted_apart : Apart counted
+counted_apart tally rows crew Accepted before numbers = refl
+counted_apart tally rows crew (Waits position) before numbers = refl
+counted_apart tally rows crew (Refused refusal place) before numbers = refl
 
-sealed_forgets : Forgets counted_seal
-sealed_forgets tally Accepted before state = refl
-sealed_forgets tally (Waits position) before state = refl
-sealed_forgets tally (Refused refusal place) before state = refl
+sealed_apart : Apart counted_seal
+sealed_apart tally rows crew Accepted before numbers = refl
+sealed_apart tally rows crew (Waits position) before numbers = refl
+sealed_apart tally rows crew (Refused refusal place) before numbers = refl
 
 -- a state put together from the parts after a step is counted as the state after the step
-counted_whole : (count : Counts) → Forgets count → (tally after : Tally) (stepped : Stepped) (numbers : Numbers)
+counted_whole : (count : Counts) → Apart count → (tally after : Tally) (before numbers : Numbers) (stepped : Stepped)
     (rows : List Row) (crew : List Worker) (answer : Answer) → numbers ≡ numbers_of stepped.state
     → rows ≡ stepped.state.rows → crew ≡ stepped.state.crew → answer ≡ stepped.answer
-    → after ≡ count (record tally { state = joined numbers rows crew }) answer (joined numbers rows crew)
-    → after ≡ count tally stepped.answer stepped.state
-counted_whole count forgets tally after stepped numbers rows crew answer one two three four is =
-    is ∙ rw (one, two, three, four) (forgets tally stepped.answer stepped.state stepped.state)
+    → after
+    ≡ count (record tally { state = joined (numbers_of tally.state) rows crew }) answer
+    (joined (numbers_of tally.state) rows crew)
+    → with_numbers after numbers ≡ count (with_numbers tally before) stepped.answer stepped.state
+counted_whole count apart tally after before numbers stepped rows crew answer one two three four is =
+    ap (λ t. with_numbers t numbers) is
+    ∙ (apart tally rows crew answer before numbers ∙ rw (one, two, three, four) refl)
 
 sessions : (a b : Tally) (records records_same newest newest_same : List ℕ) (versions versions_same : List Version)
     (results results_same : List ℕ) → a ≡ b → records ≡ records_same → newest ≡ newest_same
@@ -150,45 +156,49 @@ sessions a b records records_same newest newest_same versions versions_same resu
     five = rw (one, two, three, four, five)
 
 -- ---- an offered step
-module _ (step : Step) (tally after : Tally) (log records newest : List ℕ) (versions : List Version)
-    (results : List ℕ) where
+module _ (step : Step) (tally after : Tally) (before : Numbers) (log records newest : List ℕ)
+    (versions : List Version) (results : List ℕ) where
+  abbrev whole : Tally
+  whole = with_numbers tally before
+
   abbrev session : Session
-  session = session_of tally records newest versions results
+  session = session_of whole records newest versions results
 
   offered : (asked : Option Asked) → asked ≡ asked_of step → offered_by asked log session ≡ offer_of step log session
   offered asked is = ap (λ a. offered_by a log session) is ∙ offered_asked step log session
 
   pub place_met : (party : ℕ) (placed : Counted) (newest_exit : List ℕ) (versions_exit : List Version)
       → Some (Place party) ≡ asked_of step
-      → (placed ≡ counted_of (place_of tally.state party log newest versions).stepped)
-      × ((newest_exit ≡ (place_of tally.state party log newest versions).plans.newest)
-      × (versions_exit ≡ (place_of tally.state party log newest versions).plans.versions))
-      → after ≡ counted (with_numbers tally placed.numbers) placed.answer (with_numbers tally placed.numbers).state
-      → session_of after records newest_exit versions_exit results ≡ offer_of step log session
+      → (placed ≡ counted_of (place_of whole.state party log newest versions).stepped)
+      × ((newest_exit ≡ (place_of whole.state party log newest versions).plans.newest)
+      × (versions_exit ≡ (place_of whole.state party log newest versions).plans.versions))
+      → after ≡ counted tally placed.answer tally.state
+      → session_of (with_numbers after placed.numbers) records newest_exit versions_exit results
+      ≡ offer_of step log session
   place_met party placed newest_exit versions_exit asks own is =
-      let keeps = place_keeps tally.state party log newest versions in
+      let keeps = place_keeps whole.state party log newest versions in
       sessions _ _ _ _ _ _ _ _ _ _
-      (counted_whole counted counted_forgets tally after (place_of tally.state party log newest versions).stepped
-      placed.numbers tally.state.rows tally.state.crew placed.answer (ap (λ c. c.numbers) own.0) keeps.0 keeps.1
-      (ap (λ c. c.answer) own.0) is)
+      (counted_whole counted counted_apart tally after before placed.numbers
+      (place_of whole.state party log newest versions).stepped tally.state.rows tally.state.crew placed.answer
+      (ap (λ c. c.numbers) own.0) keeps.0 keeps.1 (ap (λ c. c.answer) own.0) is)
       refl own.1.0 own.1.1 refl
       ∙ offered (Some (Place party)) asks
 
   pub seal_met : (sealed : Counted) (records_exit newest_exit : List ℕ) (versions_exit : List Version)
       → Some Seal ≡ asked_of step
-      → (sealed ≡ counted_of (seal_of tally.state records newest versions).stepped)
-      × ((records_exit ≡ (seal_of tally.state records newest versions).records)
-      × ((newest_exit ≡ (seal_of tally.state records newest versions).newest)
-      × (versions_exit ≡ (seal_of tally.state records newest versions).versions)))
-      → after
-      ≡ counted_seal (with_numbers tally sealed.numbers) sealed.answer (with_numbers tally sealed.numbers).state
-      → session_of after records_exit newest_exit versions_exit results ≡ offer_of step log session
+      → (sealed ≡ counted_of (seal_of whole.state records newest versions).stepped)
+      × ((records_exit ≡ (seal_of whole.state records newest versions).records)
+      × ((newest_exit ≡ (seal_of whole.state records newest versions).newest)
+      × (versions_exit ≡ (seal_of whole.state records newest versions).versions)))
+      → after ≡ counted_seal tally sealed.answer tally.state
+      → session_of (with_numbers after sealed.numbers) records_exit newest_exit versions_exit results
+      ≡ offer_of step log session
   seal_met sealed records_exit newest_exit versions_exit asks own is =
-      let keeps = seal_keeps tally.state records newest versions in
+      let keeps = seal_keeps whole.state records newest versions in
       sessions _ _ _ _ _ _ _ _ _ _
-      (counted_whole counted_seal sealed_forgets tally after (seal_of tally.state records newest versions).stepped
-      sealed.numbers tally.state.rows tally.state.crew sealed.answer (ap (λ c. c.numbers) own.0) keeps.0 keeps.1
-      (ap (λ c. c.answer) own.0) is)
+      (counted_whole counted_seal sealed_apart tally after before sealed.numbers
+      (seal_of whole.state records newest versions).stepped tally.state.rows tally.state.crew sealed.answer
+      (ap (λ c. c.numbers) own.0) keeps.0 keeps.1 (ap (λ c. c.answer) own.0) is)
       own.1.0 own.1.1.0 own.1.1.1 refl
       ∙ offered (Some Seal) asks
 
@@ -198,35 +208,35 @@ module _ (step : Step) (tally after : Tally) (log records newest : List ℕ) (ve
       ≡ counted (record tally { state = joined (numbers_of tally.state) rows crew }) answer
       (joined (numbers_of tally.state) rows crew)) where
     pub claim_met : (party transaction : ℕ) → Some (Claim party transaction) ≡ asked_of step
-        → (answer ≡ (claim_of tally.state party transaction).answer)
-        × ((rows ≡ (claim_of tally.state party transaction).state.rows)
-        × (crew ≡ (claim_of tally.state party transaction).state.crew))
-        → session_of after records newest versions results ≡ offer_of step log session
+        → (answer ≡ (claim_of whole.state party transaction).answer)
+        × ((rows ≡ (claim_of whole.state party transaction).state.rows)
+        × (crew ≡ (claim_of whole.state party transaction).state.crew))
+        → session_of (with_numbers after before) records newest versions results ≡ offer_of step log session
     claim_met party transaction asks own =
         sessions _ _ _ _ _ _ _ _ _ _
-        (counted_whole counted counted_forgets tally after (claim_of tally.state party transaction)
-        (numbers_of tally.state) rows crew answer (sym (claim_numbers tally.state party transaction)) own.1.0 own.1.1
-        own.0 is)
+        (counted_whole counted counted_apart tally after before before (claim_of whole.state party transaction)
+        rows crew answer (sym (claim_numbers whole.state party transaction)) own.1.0 own.1.1 own.0 is)
         refl refl refl refl
         ∙ offered (Some (Claim party transaction)) asks
 
     pub advance_met : (party : ℕ) (versions_exit : List Version) (results_exit : List ℕ)
         → Some (Advance party) ≡ asked_of step
-        → (answer ≡ (advance_of tally.state party log records newest versions results).stepped.answer)
-        × ((rows ≡ (advance_of tally.state party log records newest versions results).stepped.state.rows)
-        × ((crew ≡ (advance_of tally.state party log records newest versions results).stepped.state.crew)
-        × ((versions_exit ≡ (advance_of tally.state party log records newest versions results).versions)
-        × (results_exit ≡ (advance_of tally.state party log records newest versions results).results))))
-        → session_of after records newest versions_exit results_exit ≡ offer_of step log session
+        → (answer ≡ (advance_of whole.state party log records newest versions results).stepped.answer)
+        × ((rows ≡ (advance_of whole.state party log records newest versions results).stepped.state.rows)
+        × ((crew ≡ (advance_of whole.state party log records newest versions results).stepped.state.crew)
+        × ((versions_exit ≡ (advance_of whole.state party log records newest versions results).versions)
+        × (results_exit ≡ (advance_of whole.state party log records newest versions results).results))))
+        → session_of (with_numbers after before) records newest versions_exit results_exit
+        ≡ offer_of step log session
     advance_met party versions_exit results_exit asks own =
         sessions _ _ _ _ _ _ _ _ _ _
-        (counted_whole counted counted_forgets tally after
-        (advance_of tally.state party log records newest versions results).stepped
-        (numbers_of tally.state) rows crew answer
-        (sym (advance_numbers tally.state party log records newest versions results)) own.1.0 own.1.1.0 own.0 is)
+        (counted_whole counted counted_apart tally after before before
+        (advance_of whole.state party log records newest versions results).stepped rows crew answer
+        (sym (advance_numbers whole.state party log records newest versions results)) own.1.0 own.1.1.0 own.0 is)
         refl refl own.1.1.1.0 own.1.1.1.1
         ∙ offered (Some (Advance party)) asks
 
   pub none_met : None ≡ asked_of step → after ≡ refused_at_once tally
-      → session_of after records newest versions results ≡ offer_of step log session
-  none_met asks is = sessions _ _ _ _ _ _ _ _ _ _ is refl refl refl refl ∙ offered None asks
+      → session_of (with_numbers after before) records newest versions results ≡ offer_of step log session
+  none_met asks is =
+      sessions _ _ _ _ _ _ _ _ _ _ (ap (λ t. with_numbers t before) is) refl refl refl refl ∙ offered None asks

@@ -1,6 +1,5 @@
 // The counts after a step.
 ghost use Rattle.std.specs.Prelude.{◌≡◌};
-ghost use Rattle.engine.specs.Lent.{joined, numbers_of};
 ghost use Rattle.desk.specs.Counts.{one_more, counted, counted_seal, refused_at_once, begun};
 ghost use Rattle.desk.specs.LawsLending.{with_numbers};
 
@@ -29,23 +28,7 @@ pub fn begin(state: State) -> Tally
 }
 
 impl Tally {
-    // The numbers of its state.
-    pub(crate) fn numbers(&self) -> Numbers
-        ensures { result ≡ numbers_of self.now.state }
-    {
-        let state = &self.state;
-        Numbers {
-            records: state.records,
-            partitions: state.partitions,
-            workers: state.workers,
-            next: state.next,
-            size: state.size,
-            batch: state.batch,
-            placed: state.placed,
-        }
-    }
-
-    // The numbers after a step, which leaves its transactions and workers.
+    // The numbers of its state are these; its transactions and workers stay.
     pub(crate) fn keep(&mut self, numbers: Numbers)
         ensures { self.new ≡ with_numbers self.old numbers }
     {
