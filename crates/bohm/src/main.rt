@@ -5,12 +5,5 @@ use program::{Setup, run_files};
 use std::io;
 
 fn main(rt: HostRuntime) -> io::Result<()> {
-    run_files(
-        &rt,
-        Setup {
-            partitions: 2,
-            workers: 2,
-            quiet: false,
-        },
-    )
+    run_files(&rt, Setup::STANDARD)
 }

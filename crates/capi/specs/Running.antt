@@ -12,10 +12,8 @@ use Rattle.engine.specs.declared.State.{State}
 use Rattle.engine.specs.declared.Stepped.{Stepped}
 use Rattle.desk.specs.Counts.{begun}
 use Rattle.desk.specs.Offer.{Session, session_of, run_of}
-use Rattle.desk.specs.declared.Tally.{Tally}
 use Rattle.capi.specs.Lent.{wrong_lent, slots_of}
 use Rattle.capi.specs.Report.{told_outcomes, told_counts}
-use Rattle.capi.specs.declared.Ran.{Ran}
 
 -- what a run hands back: the number, and what each array of the caller holds then
 pub record Returned : Type 0 where
@@ -24,9 +22,6 @@ pub record Returned : Type 0 where
   pub results : List ℕ
   pub outcomes : List ℕ
   pub counts : List ℕ
-
-abbrev pub ran_by : ℕ → Tally → Ran
-ran_by number tally = record { number = number; tally = tally }
 
 -- how many bytes of the steps are offered: all of them, and none after a refused opening
 abbrev pub offered_bytes : Answer → ℕ → ℕ

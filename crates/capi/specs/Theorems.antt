@@ -1,7 +1,7 @@
 -- "State and all tables keep their contents": a run that answers with a refusal number changes none of the caller's
 -- arrays.
-use Rattle.std.specs.Prelude.{ℕ, ◌/◌, Bool, true, false, cond, List, ◌≡◌, refl, ltb, eqb, length, replicate, Ok, Err}
-use Rattle.std.proofs.Common.{ap, sym, arith, ltb-false, ne_eqb}
+use Rattle.std.specs.Prelude.{ℕ, Bool, true, false, cond, List, ◌≡◌, refl, eqb, length, replicate, Ok, Err}
+use Rattle.std.proofs.Common.{ap, sym, ne_eqb}
 use Rattle.terms.specs.Refusals.{verdict_number, number_of, Verdict}
 use Rattle.versions.specs.Entry.{empty_entry}
 use Rattle.versions.specs.declared.Version.{Version}
@@ -11,25 +11,14 @@ use Rattle.engine.specs.Open.{open_verdict, opened_by, open_of}
 use Rattle.engine.specs.declared.Made.{Made}
 use Rattle.engine.specs.declared.State.{State}
 use Rattle.desk.specs.Counts.{begun}
-use Rattle.desk.specs.Offer.{Session, session_of, offers_of, run_of}
-use Rattle.desk.specs.Steps.{whole_steps}
-use Rattle.capi.specs.LawsRunning.{other}
+use Rattle.desk.specs.Offer.{Session, session_of}
+use Rattle.capi.specs.LawsRunning.{other, none_offered}
 use Rattle.capi.specs.Lent.{wrong_lent, slots_of}
 use Rattle.capi.specs.Running.{Returned, returned_by, after_opened, made_ran, keeps, after_making, ran_of}
 
 abbrev pub Kept : Returned → List ℕ → List ℕ → List ℕ → List ℕ → Type 0
 Kept x records results outcomes counts =
     (x.records ≡ records) × ((x.results ≡ results) × ((x.outcomes ≡ outcomes) × (x.counts ≡ counts)))
-
-none_whole : (size : ℕ) → whole_steps size 0 ≡ 0
-none_whole size = go (ltb 0 size) refl
-  where
-    go : (test : Bool) → ltb 0 size ≡ test → cond test (0 / 4) (size / 4) ≡ 0
-    go true more = refl
-    go false none = omega (arith, ltb-false 0 size none)
-
-none_offered : (steps log : List ℕ) (s : Session) → run_of steps 0 log s ≡ s
-none_offered steps log s = ap (λ (k : ℕ). offers_of steps log s k) (none_whole (length steps))
 
 module _ (log steps records results outcomes counts : List ℕ) where
   after_opening_lem : (v : Verdict) (s : State) (newest : List ℕ) (versions : List Version)

@@ -2,7 +2,6 @@
 // opening to its last step. `capi_c` exports them; a slice is a pointer and a length there.
 #![tactic(auto)]
 
-mod opened;
 mod report;
 mod tables;
 
@@ -12,25 +11,16 @@ ghost use Rattle.packed.specs.Unpacking.{unpack_of};
 ghost use Rattle.capi.specs.Running.{ran_of};
 ghost use Rattle.capi.specs.Lent.{wrong_lent};
 
-use desk::Tally;
 use engine::State;
 use packed::unpack;
 use terms::{Position, verdict_number, verdict_place};
-
-// A batch that was run: the number that refuses its opening, 0 for none, and what there is after the last step.
-#[derive(Clone, Copy)]
-pub struct Ran {
-    pub number: u8,
-    pub tally: Tally,
-}
 
 // "Unpacking one entry is given N and checks 1, 2 (length not 88), 4 to 8".
 pub fn uxoladun_check(bytes: &[u8], records: usize, place: &mut u64) -> u32
     ensures { (result ≡ verdict_number (unpack_of records bytes.now).verdict)
         × (place.new ≡ verdict_place (unpack_of records bytes.now).verdict) }
 {
-    let unpacked = unpack(bytes, records);
-    let verdict = unpacked.verdict;
+    let verdict = unpack(bytes, records).verdict;
     *place = verdict_place(verdict) as u64;
     verdict_number(verdict) as u32
 }
@@ -42,7 +32,8 @@ fn is_wrong_lent(results: usize, outcomes: usize, counts: usize) -> bool
     (results != 256) | (outcomes != 64) | (counts != 4)
 }
 
-// A store is made, the batch opened, and every step offered.
+// A store is made, the batch opened, and every step offered. Slices beside each other and a number for the answer: C's
+// interface (a).
 pub fn uxoladun_run(
     records: &mut [u64],
     log: &[u8],
@@ -69,10 +60,8 @@ pub fn uxoladun_run(
         return 1;
     }
     let made = State::make(records.len(), partitions, workers, Position(first));
-    let number = opened::number_of_making(made);
-    if number != 0 {
-        return number as u32;
+    match made.verdict {
+        Ok(()) => tables::run_made(made.state, log, steps, records, results, outcomes, counts),
+        Err(why) => why.refusal.number() as u32,
     }
-    let state = made.state;
-    tables::run_made(state, log, steps, records, results, outcomes, counts)
 }

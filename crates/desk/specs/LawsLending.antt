@@ -1,12 +1,14 @@
--- A session whose transactions and workers are lent: it goes as the session that they make together.
-use Rattle.std.specs.Prelude.{ℕ, ◌*◌, Bool, true, false, not, cond, List, ◌≡◌, refl, T, length, Ok, Err}
+-- An offered step, whose engine step is lent the state's transactions and workers beside its numbers: the session after
+-- it is that of the step on the whole state.
+use Rattle.std.specs.Prelude.{ℕ, ◌*◌, Bool, true, false, not, cond, List, Option, Some, None, ◌≡◌, refl, length, Ok, Err}
 use Rattle.std.proofs.Common.{sym, ap, ◌∙◌}
+use Rattle.terms.specs.Refusals.{Verdict}
 use Rattle.versions.specs.declared.Version.{Version}
 use Rattle.versions.specs.Seal.{newest_sound_of}
 use Rattle.engine.specs.Advance.{advance_verdict, move_of, answered_by, advanced_when, advance_of}
 use Rattle.engine.specs.Answers.{refuse_if, accept}
 use Rattle.engine.specs.Claim.{no_such_claim, after_claim, claim_of}
-use Rattle.engine.specs.Lent.{joined, numbers_of}
+use Rattle.engine.specs.Lent.{joined, numbers_of, counted_of}
 use Rattle.engine.specs.Moment.{not_running}
 use Rattle.engine.specs.Place.{place_verdict, placed_when, place_of}
 use Rattle.engine.specs.Range.{worker_at, row_at, out_of_range}
@@ -20,6 +22,7 @@ use Rattle.engine.specs.declared.Row.{Row}
 use Rattle.engine.specs.declared.State.{State}
 use Rattle.engine.specs.declared.Stepped.{Stepped}
 use Rattle.engine.specs.declared.Worker.{Worker}
+use Rattle.engine.specs.declared.lent.Counted.{Counted}
 use Rattle.engine.specs.declared.lent.Numbers.{Numbers}
 use Rattle.terms.specs.declared.refusal.Refusal.TheVariants.{
   WrongMoment,
@@ -28,91 +31,18 @@ use Rattle.terms.specs.declared.refusal.Refusal.TheVariants.{
   NotUnprocessed,
   StateOutOfRange,
 }
-use Rattle.desk.specs.Counts.{one_more, counted, counted_seal}
-use Rattle.desk.specs.LawsOffer.{later_of, offer_place, offer_claim, offer_later}
-use Rattle.desk.specs.LawsOffer.{later_advance, later_seal, later_none}
+use Rattle.desk.specs.Counts.{counted, counted_seal, refused_at_once}
+use Rattle.desk.specs.LawsOffer.{offered_by, offered_asked}
+use Rattle.desk.specs.LawsSteps.{asked_of}
 use Rattle.desk.specs.Offer.{Session, session_of, offer_of}
-use Rattle.desk.specs.Steps.{is_place, is_claim, is_advance, is_seal}
 use Rattle.desk.specs.declared.Step.{Step}
 use Rattle.desk.specs.declared.Tally.{Tally}
-use Rattle.desk.specs.declared.lending.Sheet.{Sheet}
-use Rattle.terms.specs.Refusals.{Verdict}
+use Rattle.desk.specs.declared.steps.Asked.{Asked}
+use Rattle.desk.specs.declared.steps.Asked.TheVariants.{Place, Claim, Advance, Seal}
 
--- a tally taken apart and put together
-abbrev pub sheet_of : Tally → Sheet
-sheet_of tally =
-    record {
-      numbers = numbers_of tally.state;
-      offered = tally.offered;
-      refused = tally.refused;
-      waits = tally.waits;
-      sealed = tally.sealed;
-    }
-
-abbrev pub tally_of : Sheet → List Row → List Worker → Tally
-tally_of sheet rows crew =
-    record {
-      state = joined sheet.numbers rows crew;
-      offered = sheet.offered;
-      refused = sheet.refused;
-      waits = sheet.waits;
-      sealed = sheet.sealed;
-    }
-
--- the counts after a step
-abbrev pub sheet_counted : Sheet → Answer → Numbers → Sheet
-sheet_counted sheet Accepted numbers =
-    record {
-      numbers = numbers;
-      offered = one_more sheet.offered;
-      refused = sheet.refused;
-      waits = sheet.waits;
-      sealed = sheet.sealed;
-    }
-sheet_counted sheet (Waits position) numbers =
-    record {
-      numbers = numbers;
-      offered = one_more sheet.offered;
-      refused = sheet.refused;
-      waits = one_more sheet.waits;
-      sealed = sheet.sealed;
-    }
-sheet_counted sheet (Refused refusal place) numbers =
-    record {
-      numbers = numbers;
-      offered = one_more sheet.offered;
-      refused = one_more sheet.refused;
-      waits = sheet.waits;
-      sealed = sheet.sealed;
-    }
-
-abbrev pub sheet_sealed : Sheet → Answer → Numbers → Sheet
-sheet_sealed sheet Accepted numbers =
-    record {
-      numbers = numbers;
-      offered = one_more sheet.offered;
-      refused = sheet.refused;
-      waits = sheet.waits;
-      sealed = true;
-    }
-sheet_sealed sheet (Waits position) numbers = sheet_counted sheet (Waits position) numbers
-sheet_sealed sheet (Refused refusal place) numbers = sheet_counted sheet (Refused refusal place) numbers
-
-abbrev pub sheet_refused : Sheet → Sheet
-sheet_refused sheet =
-    record {
-      numbers = sheet.numbers;
-      offered = one_more sheet.offered;
-      refused = one_more sheet.refused;
-      waits = sheet.waits;
-      sealed = sheet.sealed;
-    }
-
-abbrev pub sheet_by : Sheet → Stepped → Sheet
-sheet_by sheet stepped = sheet_counted sheet stepped.answer (numbers_of stepped.state)
-
-abbrev pub sheet_sealed_by : Sheet → Stepped → Sheet
-sheet_sealed_by sheet stepped = sheet_sealed sheet stepped.answer (numbers_of stepped.state)
+-- a tally whose state has other numbers
+abbrev pub with_numbers : Tally → Numbers → Tally
+with_numbers tally numbers = record tally { state = joined numbers tally.state.rows tally.state.crew }
 
 -- ---- what a step keeps
 keeps_numbers : (s : State) (w i : ℕ) (a b c d e : Bool)
@@ -184,183 +114,129 @@ seal_keeps s records newest versions =
     go (Ok tt) = (refl, refl)
     go (Err why) = (refl, refl)
 
--- ---- the counts
-counted_same : (tally : Tally) (answer : Answer) (state : State)
-    → sheet_counted (sheet_of tally) answer (numbers_of state) ≡ sheet_of (counted tally answer state)
-counted_same tally Accepted state = refl
-counted_same tally (Waits position) state = refl
-counted_same tally (Refused refusal place) state = refl
+-- ---- counting in place, with the numbers beside the state
+abbrev Counts : Type 0
+Counts = Tally → Answer → State → Tally
 
-counted_kept : (tally : Tally) (answer : Answer) (state : State) → state ≡ (counted tally answer state).state
-counted_kept tally Accepted state = refl
-counted_kept tally (Waits position) state = refl
-counted_kept tally (Refused refusal place) state = refl
+-- it makes no difference when the numbers are put in
+abbrev Apart : Counts → Type 0
+Apart count =
+    (tally : Tally) (rows : List Row) (crew : List Worker) (answer : Answer) (before numbers : Numbers)
+    → with_numbers (count (record tally { state = joined (numbers_of tally.state) rows crew }) answer
+    (joined (numbers_of tally.state) rows crew)) numbers
+    ≡ count (with_numbers tally before) answer (joined numbers rows crew)
 
-sealed_same : (tally : Tally) (answer : Answer) (state : State)
-    → sheet_sealed (sheet_of tally) answer (numbers_of state) ≡ sheet_of (counted_seal tally answer state)
-sealed_same tally Accepted state = refl
-sealed_same tally (Waits position) state = refl
-sealed_same tally (Refused refusal place) state = refl
+counted_apart : Apart counted
+counted_apart tally rows crew Accepted before numbers = refl
+counted_apart tally rows crew (Waits position) before numbers = refl
+counted_apart tally rows crew (Refused refusal place) before numbers = refl
 
-sealed_kept : (tally : Tally) (answer : Answer) (state : State) → state ≡ (counted_seal tally answer state).state
-sealed_kept tally Accepted state = refl
-sealed_kept tally (Waits position) state = refl
-sealed_kept tally (Refused refusal place) state = refl
+sealed_apart : Apart counted_seal
+sealed_apart tally rows crew Accepted before numbers = refl
+sealed_apart tally rows crew (Waits position) before numbers = refl
+sealed_apart tally rows crew (Refused refusal place) before numbers = refl
+
+-- a state put together from the parts after a step is counted as the state after the step
+counted_whole : (count : Counts) → Apart count → (tally after : Tally) (before numbers : Numbers) (stepped : Stepped)
+    (rows : List Row) (crew : List Worker) (answer : Answer) → numbers ≡ numbers_of stepped.state
+    → rows ≡ stepped.state.rows → crew ≡ stepped.state.crew → answer ≡ stepped.answer
+    → after
+    ≡ count (record tally { state = joined (numbers_of tally.state) rows crew }) answer
+    (joined (numbers_of tally.state) rows crew)
+    → with_numbers after numbers ≡ count (with_numbers tally before) stepped.answer stepped.state
+counted_whole count apart tally after before numbers stepped rows crew answer one two three four is =
+    ap (λ t. with_numbers t numbers) is
+    ∙ (apart tally rows crew answer before numbers ∙ rw (one, two, three, four) refl)
+
+sessions : (a b : Tally) (records records_same newest newest_same : List ℕ) (versions versions_same : List Version)
+    (results results_same : List ℕ) → a ≡ b → records ≡ records_same → newest ≡ newest_same
+    → versions ≡ versions_same → results ≡ results_same
+    → session_of a records newest versions results ≡ session_of b records_same newest_same versions_same results_same
+sessions a b records records_same newest newest_same versions versions_same results results_same one two three four
+    five = rw (one, two, three, four, five)
 
 -- ---- an offered step
-module _ (step : Step) (log : List ℕ) (sheet : Sheet) (rows : List Row) (crew : List Worker)
-    (records newest : List ℕ) (versions : List Version) (results : List ℕ) where
-  abbrev tally : Tally
-  tally = tally_of sheet rows crew
-
-  abbrev whole : State
-  whole = joined sheet.numbers rows crew
+module _ (step : Step) (tally after : Tally) (before : Numbers) (log records newest : List ℕ)
+    (versions : List Version) (results : List ℕ) where
+  abbrev whole : Tally
+  whole = with_numbers tally before
 
   abbrev session : Session
-  session = session_of tally records newest versions results
+  session = session_of whole records newest versions results
 
-  -- the parts after it
-  abbrev Met : Session → Sheet → List Row → List Worker → List ℕ → List ℕ → List Version → List ℕ → Type 0
-  Met after r rows_after crew_after records_after_lem newest_after versions_after results_after =
-      (r ≡ sheet_of after.tally)
-      × ((rows_after ≡ after.tally.state.rows)
-      × ((crew_after ≡ after.tally.state.crew)
-      × ((records_after_lem ≡ after.records)
-      × ((newest_after ≡ after.newest) × ((versions_after ≡ after.versions) × (results_after ≡ after.results))))))
+  offered : (asked : Option Asked) → asked ≡ asked_of step → offered_by asked log session ≡ offer_of step log session
+  offered asked is = ap (λ a. offered_by a log session) is ∙ offered_asked step log session
 
-  abbrev placed : Stepped
-  placed = (place_of whole step.party log newest versions).stepped
+  pub place_met : (party : ℕ) (placed : Counted) (newest_exit : List ℕ) (versions_exit : List Version)
+      → Some (Place party) ≡ asked_of step
+      → (placed ≡ counted_of (place_of whole.state party log newest versions).stepped)
+      × ((newest_exit ≡ (place_of whole.state party log newest versions).plans.newest)
+      × (versions_exit ≡ (place_of whole.state party log newest versions).plans.versions))
+      → after ≡ counted tally placed.answer tally.state
+      → session_of (with_numbers after placed.numbers) records newest_exit versions_exit results
+      ≡ offer_of step log session
+  place_met party placed newest_exit versions_exit asks own is =
+      let keeps = place_keeps whole.state party log newest versions in
+      sessions _ _ _ _ _ _ _ _ _ _
+      (counted_whole counted counted_apart tally after before placed.numbers
+      (place_of whole.state party log newest versions).stepped tally.state.rows tally.state.crew placed.answer
+      (ap (λ c. c.numbers) own.0) keeps.0 keeps.1 (ap (λ c. c.answer) own.0) is)
+      refl own.1.0 own.1.1 refl
+      ∙ offered (Some (Place party)) asks
 
-  pub place_met : T (is_place step)
-      → Met (offer_of step log session) (sheet_by sheet placed) rows crew records
-      (place_of whole step.party log newest versions).plans.newest
-      (place_of whole step.party log newest versions).plans.versions results
-  place_met on =
-      let same = offer_place step log session on in
-      let keeps = place_keeps whole step.party log newest versions in
-      let kept = counted_kept tally placed.answer placed.state in (
-        counted_same tally placed.answer placed.state ∙ ap (λ z. sheet_of z.tally) same,
-        (
-          keeps.0 ∙ ap (λ s. s.rows) kept ∙ ap (λ z. z.tally.state.rows) same,
-          (
-            keeps.1 ∙ ap (λ s. s.crew) kept ∙ ap (λ z. z.tally.state.crew) same,
-            (
-              ap (λ z. z.records) same,
-              (ap (λ z. z.newest) same, (ap (λ z. z.versions) same, ap (λ z. z.results) same)),
-            ),
-          ),
-        ),
-      )
+  pub seal_met : (sealed : Counted) (records_exit newest_exit : List ℕ) (versions_exit : List Version)
+      → Some Seal ≡ asked_of step
+      → (sealed ≡ counted_of (seal_of whole.state records newest versions).stepped)
+      × ((records_exit ≡ (seal_of whole.state records newest versions).records)
+      × ((newest_exit ≡ (seal_of whole.state records newest versions).newest)
+      × (versions_exit ≡ (seal_of whole.state records newest versions).versions)))
+      → after ≡ counted_seal tally sealed.answer tally.state
+      → session_of (with_numbers after sealed.numbers) records_exit newest_exit versions_exit results
+      ≡ offer_of step log session
+  seal_met sealed records_exit newest_exit versions_exit asks own is =
+      let keeps = seal_keeps whole.state records newest versions in
+      sessions _ _ _ _ _ _ _ _ _ _
+      (counted_whole counted_seal sealed_apart tally after before sealed.numbers
+      (seal_of whole.state records newest versions).stepped tally.state.rows tally.state.crew sealed.answer
+      (ap (λ c. c.numbers) own.0) keeps.0 keeps.1 (ap (λ c. c.answer) own.0) is)
+      own.1.0 own.1.1.0 own.1.1.1 refl
+      ∙ offered (Some Seal) asks
 
-  abbrev claimed : Stepped
-  claimed = claim_of whole step.party step.transaction
+  -- transactions and workers that are written, under the numbers as they were
+  module _ (rows : List Row) (crew : List Worker) (answer : Answer)
+      (is : after
+      ≡ counted (record tally { state = joined (numbers_of tally.state) rows crew }) answer
+      (joined (numbers_of tally.state) rows crew)) where
+    pub claim_met : (party transaction : ℕ) → Some (Claim party transaction) ≡ asked_of step
+        → (answer ≡ (claim_of whole.state party transaction).answer)
+        × ((rows ≡ (claim_of whole.state party transaction).state.rows)
+        × (crew ≡ (claim_of whole.state party transaction).state.crew))
+        → session_of (with_numbers after before) records newest versions results ≡ offer_of step log session
+    claim_met party transaction asks own =
+        sessions _ _ _ _ _ _ _ _ _ _
+        (counted_whole counted counted_apart tally after before before (claim_of whole.state party transaction)
+        rows crew answer (sym (claim_numbers whole.state party transaction)) own.1.0 own.1.1 own.0 is)
+        refl refl refl refl
+        ∙ offered (Some (Claim party transaction)) asks
 
-  pub claim_met : T (not (is_place step)) → T (is_claim step)
-      → Met (offer_of step log session) (sheet_counted sheet claimed.answer sheet.numbers) claimed.state.rows
-      claimed.state.crew
-      records newest versions results
-  claim_met off on =
-      let same = offer_claim step log session off on in
-      let kept = counted_kept tally claimed.answer claimed.state in (
-        ap (sheet_counted sheet claimed.answer) (sym (claim_numbers whole step.party step.transaction))
-            ∙ counted_same tally claimed.answer claimed.state
-            ∙ ap (λ z. sheet_of z.tally) same,
-        (
-          ap (λ s. s.rows) kept ∙ ap (λ z. z.tally.state.rows) same,
-          (
-            ap (λ s. s.crew) kept ∙ ap (λ z. z.tally.state.crew) same,
-            (
-              ap (λ z. z.records) same,
-              (ap (λ z. z.newest) same, (ap (λ z. z.versions) same, ap (λ z. z.results) same)),
-            ),
-          ),
-        ),
-      )
+    pub advance_met : (party : ℕ) (versions_exit : List Version) (results_exit : List ℕ)
+        → Some (Advance party) ≡ asked_of step
+        → (answer ≡ (advance_of whole.state party log records newest versions results).stepped.answer)
+        × ((rows ≡ (advance_of whole.state party log records newest versions results).stepped.state.rows)
+        × ((crew ≡ (advance_of whole.state party log records newest versions results).stepped.state.crew)
+        × ((versions_exit ≡ (advance_of whole.state party log records newest versions results).versions)
+        × (results_exit ≡ (advance_of whole.state party log records newest versions results).results))))
+        → session_of (with_numbers after before) records newest versions_exit results_exit
+        ≡ offer_of step log session
+    advance_met party versions_exit results_exit asks own =
+        sessions _ _ _ _ _ _ _ _ _ _
+        (counted_whole counted counted_apart tally after before before
+        (advance_of whole.state party log records newest versions results).stepped rows crew answer
+        (sym (advance_numbers whole.state party log records newest versions results)) own.1.0 own.1.1.0 own.0 is)
+        refl refl own.1.1.1.0 own.1.1.1.1
+        ∙ offered (Some (Advance party)) asks
 
-  abbrev advanced : Stepped
-  advanced = (advance_of whole step.party log records newest versions results).stepped
-
-  pub advance_met : T (is_advance step)
-      → Met (later_of step log session) (sheet_counted sheet advanced.answer sheet.numbers) advanced.state.rows
-      advanced.state.crew
-      records newest (advance_of whole step.party log records newest versions results).versions
-      (advance_of whole step.party log records newest versions results).results
-  advance_met on =
-      let same = later_advance step log session on in
-      let kept = counted_kept tally advanced.answer advanced.state in (
-        ap (sheet_counted sheet advanced.answer)
-            (sym (advance_numbers whole step.party log records newest versions results))
-            ∙ counted_same tally advanced.answer advanced.state
-            ∙ ap (λ z. sheet_of z.tally) same,
-        (
-          ap (λ s. s.rows) kept ∙ ap (λ z. z.tally.state.rows) same,
-          (
-            ap (λ s. s.crew) kept ∙ ap (λ z. z.tally.state.crew) same,
-            (
-              ap (λ z. z.records) same,
-              (ap (λ z. z.newest) same, (ap (λ z. z.versions) same, ap (λ z. z.results) same)),
-            ),
-          ),
-        ),
-      )
-
-  abbrev sealed : Stepped
-  sealed = (seal_of whole records newest versions).stepped
-
-  pub seal_met : T (not (is_advance step)) → T (is_seal step)
-      → Met (later_of step log session) (sheet_sealed_by sheet sealed) rows crew
-      (seal_of whole records newest versions).records
-      (seal_of whole records newest versions).newest (seal_of whole records newest versions).versions results
-  seal_met off on =
-      let same = later_seal step log session off on in
-      let keeps = seal_keeps whole records newest versions in
-      let kept = sealed_kept tally sealed.answer sealed.state in (
-        sealed_same tally sealed.answer sealed.state ∙ ap (λ z. sheet_of z.tally) same,
-        (
-          keeps.0 ∙ ap (λ s. s.rows) kept ∙ ap (λ z. z.tally.state.rows) same,
-          (
-            keeps.1 ∙ ap (λ s. s.crew) kept ∙ ap (λ z. z.tally.state.crew) same,
-            (
-              ap (λ z. z.records) same,
-              (ap (λ z. z.newest) same, (ap (λ z. z.versions) same, ap (λ z. z.results) same)),
-            ),
-          ),
-        ),
-      )
-
-  pub none_met : T (not (is_advance step)) → T (not (is_seal step))
-      → Met (later_of step log session) (sheet_refused sheet) rows crew records newest versions results
-  none_met off off2 =
-      let same = later_none step log session off off2 in (
-        ap (λ z. sheet_of z.tally) same,
-        (
-          ap (λ z. z.tally.state.rows) same,
-          (
-            ap (λ z. z.tally.state.crew) same,
-            (
-              ap (λ z. z.records) same,
-              (ap (λ z. z.newest) same, (ap (λ z. z.versions) same, ap (λ z. z.results) same)),
-            ),
-          ),
-        ),
-      )
-
-  pub later_met : T (not (is_place step)) → T (not (is_claim step))
-      → Met (offer_of step log session) (sheet_of (later_of step log session).tally)
-      (later_of step log session).tally.state.rows (later_of step log session).tally.state.crew
-      (later_of step log session).records (later_of step log session).newest (later_of step log session).versions
-      (later_of step log session).results
-  later_met off off2 =
-      let same = offer_later step log session off off2 in (
-        ap (λ z. sheet_of z.tally) same,
-        (
-          ap (λ z. z.tally.state.rows) same,
-          (
-            ap (λ z. z.tally.state.crew) same,
-            (
-              ap (λ z. z.records) same,
-              (ap (λ z. z.newest) same, (ap (λ z. z.versions) same, ap (λ z. z.results) same)),
-            ),
-          ),
-        ),
-      )
+  pub none_met : None ≡ asked_of step → after ≡ refused_at_once tally
+      → session_of (with_numbers after before) records newest versions results ≡ offer_of step log session
+  none_met asks is =
+      sessions _ _ _ _ _ _ _ _ _ _ (ap (λ t. with_numbers t before) is) refl refl refl refl ∙ offered None asks

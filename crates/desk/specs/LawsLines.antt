@@ -1,8 +1,8 @@
 -- Pushing bytes, numbers' digits and numbers, and what a line then holds.
-use Rattle.std.specs.Prelude.{ℕ, zero, suc, ◌+◌, ◌-◌, ◌/◌, ◌<◌, ◌≤◌, Bool, true, false, cond}
+use Rattle.std.specs.Prelude.{ℕ, zero, suc, ◌+◌, ◌-◌, ◌/◌, ◌<◌, ◌≤◌, Bool, true, false, min}
 use Rattle.std.specs.Prelude.{List, [], ◌∷◌, ◌++◌, ◌≡◌, refl, ltb, length, take, get_or, replicate, set}
 use Rattle.std.proofs.Common.{append-nil, append_assoc, ap, sym, ◌∙◌, add-one, arith, ltb-true}
-use Rattle.std.proofs.Common.{ltb-false, lt-ltb, le-ltb, le-leb, length-append, length-take, take-suc, take_all}
+use Rattle.std.proofs.Common.{ltb-false, lt-ltb, le-ltb, length-append, length-take, take-suc, take_all}
 use Rattle.std.proofs.lemmas.Bool.{lt-leb}
 use Rattle.std.proofs.Math.Seq.{take-append_seam, set-append_seam, append_snoc}
 use Rattle.desk.specs.Text.{digit, digits, decimal, spaced}
@@ -18,9 +18,6 @@ pushed_both line (first ∷ bytes) more = pushed_both (pushed line first) bytes 
 pub pushed_room : (line : Line) (byte : ℕ) → line.length < 128
     → record { bytes = set line.bytes line.length byte; length = line.length + 1 } ≡ pushed line byte
 pushed_room line byte room = rw (lt-leb 128 line.length room)
-
-pub pushed_full : (line : Line) (byte : ℕ) → 128 ≤ line.length → line ≡ pushed line byte
-pushed_full line byte full = rw (le-leb 128 line.length full)
 
 -- a number's digits
 pub digits_none : (line : Line) (most number : ℕ) → most ≡ 0 → line ≡ pushed_all line (digits most number)
@@ -54,10 +51,6 @@ pushed_next line start text k byte within read so_far =
       read,
     )
 
-pub pushed_end : (line start : Line) (text : List ℕ) (k : ℕ) → length text ≤ k
-    → line ≡ pushed_all start (take k text) → line ≡ pushed_all start text
-pushed_end line start text k over so_far = so_far ∙ ap (pushed_all start) (take_all k text over)
-
 -- a loop that pushes numbers, each after a space
 spaced_last : (numbers : List ℕ) (number : ℕ) → spaced (numbers ++ (number ∷ [])) ≡ spaced numbers ++
     (32 ∷ decimal number)
@@ -76,6 +69,11 @@ spaced_next line after start numbers k number within read so_far turn =
     rw (add-one k, take-suc numbers k 0 within, spaced_last (take k numbers) (get_or numbers k 0)) in
     rw (turn, last, pushed_both start (spaced (take k numbers)) (32 ∷ decimal (get_or numbers k 0)), so_far, read)
 
+pub spaced_end : (line start : Line) (numbers : List ℕ) (k : ℕ) → length numbers ≤ k
+    → line ≡ pushed_all start (spaced (take k numbers)) → line ≡ pushed_all start (spaced numbers)
+spaced_end line start numbers k over so_far =
+    so_far ∙ ap (λ taken. pushed_all start (spaced taken)) (take_all k numbers over)
+
 -- a number after a space
 pub spaced_one : (line : Line) (number : ℕ)
     → pushed_all (pushed line 32) (decimal number) ≡ pushed_all line (32 ∷ decimal number)
@@ -88,22 +86,19 @@ unfolding pushed_all
 pushed_none line = refl
 
 -- the first `count` of four numbers
-pub four_below : (count : ℕ) → cond (ltb count 4) count 4 ≤ 4
-four_below count = go (ltb count 4) refl
-  where
-    go : (test : Bool) → ltb count 4 ≡ test → cond test count 4 ≤ 4
-    go true less = omega (arith, ltb-true count 4 less)
-    go false less = omega arith
-
 pub four_taken : (numbers : List ℕ) (count : ℕ) → length numbers ≡ 4
-    → take (cond (ltb count 4) count 4) numbers ≡ take count numbers
+    → take (min count 4) numbers ≡ take count numbers
 four_taken numbers count four = go (ltb count 4) refl
   where
-    go : (test : Bool) → ltb count 4 ≡ test → take (cond test count 4) numbers ≡ take count numbers
-    go true less = refl
+    go : (test : Bool) → ltb count 4 ≡ test → take (min count 4) numbers ≡ take count numbers
+    go true less =
+        let few : min count 4 ≡ count = omega (arith, ltb-true count 4 less) in
+        ap (λ k. take k numbers) few
     go false less =
-        take_all 4 numbers (omega (arith, four))
-        ∙ sym (take_all count numbers (omega (arith, four, ltb-false count 4 less)))
+        let all : min count 4 ≡ 4 = omega (arith, ltb-false count 4 less) in
+        ap (λ k. take k numbers) all
+        ∙ (take_all 4 numbers (omega (arith, four))
+        ∙ sym (take_all count numbers (omega (arith, four, ltb-false count 4 less))))
 
 pub four_few : (numbers : List ℕ) (count : ℕ) → length numbers ≡ 4 → length (take count numbers) ≤ 4
 four_few numbers count four = omega (arith, length-take count numbers, four)

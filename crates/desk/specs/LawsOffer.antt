@@ -1,49 +1,37 @@
--- An offered step by its kind: what it is where the tests of the kinds before it fail and its own holds.
-use Rattle.std.specs.Prelude.{ℕ, Bool, true, false, not, cond, List, ◌≡◌, refl, T}
-use Rattle.std.proofs.Common.{◌∙◌}
+-- An offered step by what it asks.
+use Rattle.std.specs.Prelude.{Bool, true, false, cond, List, ℕ, Option, Some, None, ◌≡◌, refl}
+use Rattle.desk.specs.LawsSteps.{asked_of}
 use Rattle.desk.specs.Offer.{Session, place_for, claim_for, advance_for, seal_for}
 use Rattle.desk.specs.Offer.{after_place, after_claim, after_advance, after_seal, after_none, offer_of}
 use Rattle.desk.specs.Steps.{is_place, is_claim, is_advance, is_seal}
 use Rattle.desk.specs.declared.Step.{Step}
+use Rattle.desk.specs.declared.steps.Asked.{Asked}
+use Rattle.desk.specs.declared.steps.Asked.TheVariants.{Place, Claim, Advance, Seal}
+use Rattle.engine.specs.Claim.{claim_of}
 
-holds : (test : Bool) (x y : Session) → T test → x ≡ cond test x y
-holds true x y on = refl
-holds false x y on = absurd on
+-- the session after what is asked
+abbrev pub offered_by : Option Asked → List ℕ → Session → Session
+offered_by (Some (Place party)) log s = after_place (place_for s.tally party log s.newest s.versions) s
+offered_by (Some (Claim party transaction)) log s = after_claim (claim_of s.tally.state party transaction) s
+offered_by (Some (Advance party)) log s =
+    after_advance (advance_for s.tally party log s.records s.newest s.versions s.results) s
+offered_by (Some Seal) log s = after_seal (seal_for s.tally s.records s.newest s.versions) s
+offered_by None log s = after_none s
 
-fails : (test : Bool) (x y : Session) → T (not test) → y ≡ cond test x y
-fails true x y off = absurd off
-fails false x y off = refl
-
-module _ (step : Step) (log : List ℕ) (s : Session) where
-  pub offer_place : T (is_place step)
-      → after_place (place_for s.tally step.party log s.newest s.versions) s ≡ offer_of step log s
-  unfolding offer_of
-  offer_place place = holds (is_place step) _ _ place
-
-  pub offer_claim : T (not (is_place step)) → T (is_claim step)
-      → after_claim (claim_for s.tally step) s ≡ offer_of step log s
-  unfolding offer_of
-  offer_claim place claim = holds (is_claim step) _ _ claim ∙ fails (is_place step) _ _ place
-
-  -- a step that is neither a place nor a claim
-  abbrev pub later_of : Session
-  later_of =
-      cond (is_advance step)
-      (after_advance (advance_for s.tally step.party log s.records s.newest s.versions s.results) s)
-      (cond (is_seal step) (after_seal (seal_for s.tally s.records s.newest s.versions) s) (after_none s))
-
-  pub offer_later : T (not (is_place step)) → T (not (is_claim step)) → later_of ≡ offer_of step log s
-  unfolding offer_of
-  offer_later place claim = fails (is_claim step) _ _ claim ∙ fails (is_place step) _ _ place
-
-  pub later_advance : T (is_advance step)
-      → after_advance (advance_for s.tally step.party log s.records s.newest s.versions s.results) s
-      ≡ later_of
-  later_advance advance = holds (is_advance step) _ _ advance
-
-  pub later_seal : T (not (is_advance step)) → T (is_seal step)
-      → after_seal (seal_for s.tally s.records s.newest s.versions) s ≡ later_of
-  later_seal advance seal = holds (is_seal step) _ _ seal ∙ fails (is_advance step) _ _ advance
-
-  pub later_none : T (not (is_advance step)) → T (not (is_seal step)) → after_none s ≡ later_of
-  later_none advance seal = fails (is_seal step) _ _ seal ∙ fails (is_advance step) _ _ advance
+pub offered_asked : (step : Step) (log : List ℕ) (s : Session)
+    → offered_by (asked_of step) log s ≡ offer_of step log s
+unfolding offer_of
+offered_asked step log s = go (is_place step) (is_claim step) (is_advance step) (is_seal step)
+  where
+    go : (place claim advance seal : Bool)
+        → offered_by (cond place (Some (Place step.party)) (cond claim (Some (Claim step.party step.transaction))
+        (cond advance (Some (Advance step.party)) (cond seal (Some Seal) None)))) log s
+        ≡ cond place (after_place (place_for s.tally step.party log s.newest s.versions) s)
+        (cond claim (after_claim (claim_for s.tally step) s)
+        (cond advance (after_advance (advance_for s.tally step.party log s.records s.newest s.versions s.results) s)
+        (cond seal (after_seal (seal_for s.tally s.records s.newest s.versions) s) (after_none s))))
+    go true claim advance seal = refl
+    go false true advance seal = refl
+    go false false true seal = refl
+    go false false false true = refl
+    go false false false false = refl

@@ -3,7 +3,6 @@
 #![tactic(auto)]
 
 mod counts;
-pub(crate) mod lending;
 mod offering;
 mod output;
 mod steps;
@@ -16,16 +15,18 @@ pub use offering::offer_all;
 pub use output::{counts_of, make_for, opening_line, record_at, refusal_line, transaction_at};
 pub use text::{counts_line, not_sealed_line, record_line, refused_line, transaction_line};
 
-// "4 bytes a step: kind 1 place, 2 claim, 3 advance, 4 seal; party; 16-bit transaction, zero except for a claim"
-#[derive(Clone, Copy)]
+// "4 bytes a step: kind 1 place, 2 claim, 3 advance, 4 seal; party; 16-bit transaction, zero except for a claim".
+// A kind is a number here (a): the file's form, which `step_at` and the theorems of `promised` name; `asks` has the enum.
+#[derive(Clone, Copy, Debug, PartialEq, Eq)]
 pub struct Step {
     pub kind: u8,
     pub party: u8,
     pub transaction: u16,
 }
 
-// A line of the program's output: its first `length` bytes.
-#[derive(Clone, Copy)]
+// A line of the program's output: its first `length` bytes. A buffer with its length (a): no heap, and `line_of` names
+// both.
+#[derive(Clone, Copy, Debug, PartialEq, Eq)]
 pub struct Line {
     pub bytes: [u8; 128],
     pub length: usize,

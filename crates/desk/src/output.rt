@@ -1,9 +1,7 @@
 // What the program prints, line by line, and what it makes of its files.
-ghost use Rattle.std.specs.Prelude.{◌≡◌, ◌<◌, List, [], ◌∷◌, get_or};
+ghost use Rattle.std.specs.Prelude.{◌≡◌, ◌<◌, get_or};
 ghost use Rattle.engine.specs.Answers.{answer_number};
 ghost use Rattle.engine.specs.Make.{make_of};
-ghost use Rattle.engine.specs.Rows.{row};
-ghost use Rattle.engine.specs.declared.Progress.TheVariants.{Unprocessed};
 ghost use Rattle.terms.specs.Refusals.{number_of};
 ghost use Rattle.desk.specs.Lines.{line_of};
 ghost use Rattle.desk.specs.Program.{records_in, outcome_of, four_at, reads_of};
@@ -11,7 +9,6 @@ ghost use Rattle.desk.specs.Program.{transaction_at, record_at, counts_of};
 ghost use Rattle.desk.specs.Text.{refused_line};
 
 use crate::text::{counts_line, record_line, refused_line, transaction_line};
-use crate::writing::blank;
 use crate::{Line, Tally};
 use counters::Outcome;
 use engine::{Made, Progress, Row, State, Stepped};
@@ -32,10 +29,11 @@ pub fn make_for(bytes: usize, partitions: usize, workers: usize) -> Made
     State::make(records_in(bytes), partitions, workers, Position(1))
 }
 
+// Number k of a table; 0 past the last.
 fn number_at(table: &[u64], k: usize) -> u64
     ensures { result ≡ get_or table.now k 0 }
 {
-    if k < table.len() { table[k] } else { 0 }
+    table.get(k).copied().unwrap_or(0)
 }
 
 // The four numbers from a place on.
@@ -51,20 +49,11 @@ fn four_at(results: &[u64], place: usize) -> [u64; 4]
     ]
 }
 
-fn row_at(state: State, index: usize) -> Row
-    requires { index < 64 }
-    ensures { result ≡ get_or state.rows index (row Unprocessed) }
-{
-    state.rows[index]
-}
-
 fn outcome_of(row: Row) -> Outcome
     ensures { result ≡ outcome_of row.progress }
 {
-    let progress = row.progress;
-    match progress {
-        Progress::Unprocessed => Outcome::Aborted,
-        Progress::Executing(_) => Outcome::Aborted,
+    match row.progress {
+        Progress::Unprocessed | Progress::Executing(_) => Outcome::Aborted,
         Progress::Complete(outcome) => outcome,
     }
 }
@@ -73,23 +62,19 @@ fn outcome_of(row: Row) -> Outcome
 fn reads_of(log: &[u8], index: usize, n: usize) -> usize
     ensures { result ≡ reads_of n log.now index }
 {
-    let entry = unpack_at(log, index, n);
-    let meaning = entry.meaning;
-    meaning.readcount as usize
+    unpack_at(log, index, n).meaning.readcount as usize
 }
 
 // The line of a transaction; none past the 64 that a batch may have.
 pub fn transaction_at(tally: Tally, log: &[u8], results: &[u64], index: usize) -> Line
     ensures { result ≡ line_of (transaction_at tally log.now results.now index) }
 {
-    if index < 64 {
-        let state = tally.state;
-        let outcome = outcome_of(row_at(state, index));
-        let count = reads_of(log, index, state.records as usize);
-        let values = four_at(results, 4 * index);
-        return transaction_line(index as u64 + 1, outcome, count, values);
-    }
-    blank()
+    let Some(&row) = tally.state.rows.get(index) else {
+        return Line::blank();
+    };
+    let count = reads_of(log, index, tally.state.records as usize);
+    let values = four_at(results, 4 * index);
+    transaction_line(index as u64 + 1, outcome_of(row), count, values)
 }
 
 // The line of a record.
@@ -117,6 +102,5 @@ pub fn refusal_line(refusal: Refusal) -> Line
 pub fn opening_line(stepped: Stepped) -> Line
     ensures { result ≡ line_of (refused_line (answer_number stepped.answer)) }
 {
-    let answer = stepped.answer;
-    refused_line(answer.number() as u64)
+    refused_line(stepped.answer.number() as u64)
 }

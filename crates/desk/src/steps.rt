@@ -1,8 +1,18 @@
-// A step as it stands in its file, and which step of the engine it is.
+// A step as it stands in its file, and what it asks of the engine.
 ghost use Rattle.std.specs.Prelude.{◌≡◌, ◌<◌, ◌/◌, length};
-ghost use Rattle.desk.specs.Steps.{step_at, whole_steps, is_place, is_claim, is_advance, is_seal};
+ghost use Rattle.desk.specs.Steps.{step_at, whole_steps};
+ghost use Rattle.desk.specs.LawsSteps.{asked_of};
 
 use crate::Step;
+
+// What a step asks of the engine; "a seal's party is not read".
+#[derive(Clone, Copy, Debug, PartialEq, Eq)]
+pub(crate) enum Asked {
+    Place { party: usize },
+    Claim { party: usize, transaction: usize },
+    Advance { party: usize },
+    Seal,
+}
 
 // Step k of a run of bytes.
 pub(crate) fn step_at(steps: &[u8], k: usize) -> Step
@@ -23,37 +33,24 @@ pub(crate) fn step_at(steps: &[u8], k: usize) -> Step
 pub(crate) fn whole_steps(size: usize, bytes: usize) -> usize
     ensures { result ≡ whole_steps size bytes }
 {
-    if bytes < size { bytes / 4 } else { size / 4 }
+    bytes.min(size) / 4
 }
 
-// "with a nonzero transaction where none belongs": only a claim has one.
-pub(crate) fn is_place(step: Step) -> bool
-    ensures { result ≡ is_place step }
-{
-    (step.kind == 1) & (step.transaction == 0)
-}
-
-pub(crate) fn is_claim(step: Step) -> bool
-    ensures { result ≡ is_claim step }
-{
-    step.kind == 2
-}
-
-pub(crate) fn is_advance(step: Step) -> bool
-    ensures { result ≡ is_advance step }
-{
-    (step.kind == 3) & (step.transaction == 0)
-}
-
-pub(crate) fn is_seal(step: Step) -> bool
-    ensures { result ≡ is_seal step }
-{
-    (step.kind == 4) & (step.transaction == 0)
-}
-
-// The party as an index.
-pub(crate) fn party_of(step: Step) -> usize
-    ensures { result ≡ step.party }
-{
-    step.party as usize
+impl Step {
+    // Nothing is asked by "a step of another kind, or with a nonzero transaction where none belongs".
+    pub(crate) fn asks(self) -> Option<Asked>
+        ensures { result ≡ asked_of self }
+    {
+        let party = self.party as usize;
+        match (self.kind, self.transaction) {
+            (1, 0) => Some(Asked::Place { party }),
+            (2, transaction) => Some(Asked::Claim {
+                party,
+                transaction: transaction as usize,
+            }),
+            (3, 0) => Some(Asked::Advance { party }),
+            (4, 0) => Some(Asked::Seal),
+            _ => None,
+        }
+    }
 }

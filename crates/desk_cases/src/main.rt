@@ -7,53 +7,39 @@ use program::{Part, Setup, close, load, run, whole};
 use std::fs::File;
 use std::io;
 
-// The number in the four bytes from a place on.
+// The number in the four bytes from a place on; zeros stand for those that the file has not.
 fn number_at(file: Part<&File>, place: usize) -> io::Result<usize> {
-    let mut bytes = [0u8; 8];
-    let mut four = part(file, place, 4);
-    load(&mut four, &mut bytes)?;
-    Ok(little::long(bytes) as usize)
-}
-
-// The place after some bytes; no file is longer than 2^62 bytes.
-fn after(place: usize, length: usize) -> usize {
-    if place < 4611686018427387904 {
-        if length < 4611686018427387904 {
-            return place + length;
-        }
-    }
-    4611686018427387904
+    let mut bytes = [0; 4];
+    load(&mut part(file, place, 4), &mut bytes)?;
+    Ok(u32::from_le_bytes(bytes) as usize)
 }
 
 // The bytes of a file of a case.
 fn part(file: Part<&File>, start: usize, length: usize) -> Part<&File> {
     Part {
-        file: file.file,
         start,
         length,
+        ..file
     }
+}
+
+// The place after a part.
+fn after(part: &Part<&File>) -> usize {
+    part.start.saturating_add(part.length)
 }
 
 // Runs the case that stands at a place, and answers the place of the next.
 fn case(rt: &impl Print, file: Part<&File>, place: usize) -> io::Result<usize> {
-    let mut stored = part(file, after(place, 12), number_at(file, place)?);
+    let head = part(file, place, 12);
+    let mut stored = part(file, after(&head), number_at(file, place)?);
     let mut log = part(
         file,
-        after(stored.start, stored.length),
-        number_at(file, after(place, 4))?,
+        after(&stored),
+        number_at(file, place.saturating_add(4))?,
     );
-    let mut steps = part(
-        file,
-        after(log.start, log.length),
-        number_at(file, after(place, 8))?,
-    );
-    let setup = Setup {
-        partitions: 2,
-        workers: 2,
-        quiet: false,
-    };
-    run(rt, setup, &mut stored, &mut log, &mut steps)?;
-    Ok(after(steps.start, steps.length))
+    let mut steps = part(file, after(&log), number_at(file, place.saturating_add(8))?);
+    run(rt, Setup::STANDARD, &mut stored, &mut log, &mut steps)?;
+    Ok(after(&steps))
 }
 
 fn print_head(rt: &impl Print, k: usize) -> io::Result<()> {

@@ -7,26 +7,19 @@ use program::{Setup, close, load, run_files, whole};
 use std::io;
 use std::rt::Files;
 
-fn wide(byte: u8) -> usize {
-    byte as usize
-}
-
 fn setup(rt: &impl Files) -> io::Result<Setup> {
     let mut file = whole(rt, b"setup.bin");
-    let mut bytes = [0u8; 3];
+    let mut bytes = [0; 3];
     let got = load(&mut file, &mut bytes)?;
     close(file);
     if got < 2 {
-        return Ok(Setup {
-            partitions: 2,
-            workers: 2,
-            quiet: false,
-        });
+        return Ok(Setup::STANDARD);
     }
+    let [partitions, workers, quiet] = bytes;
     Ok(Setup {
-        partitions: wide(bytes[0]),
-        workers: wide(bytes[1]),
-        quiet: bytes[2] != 0,
+        partitions: usize::from(partitions),
+        workers: usize::from(workers),
+        quiet: quiet != 0,
     })
 }
 

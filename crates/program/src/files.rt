@@ -65,8 +65,7 @@ fn place_of(start: usize) -> u64 {
 }
 
 // The file of a part is to be read on from where the part starts. Where there is nothing to read, nothing is sought:
-// such
-// a file may be none that can be.
+// such a file may be none that can be.
 pub(crate) fn at_start<F: Seek>(part: &mut Part<F>) -> io::Result<()> {
     if part.length == 0 {
         return Ok(());
@@ -78,14 +77,8 @@ pub(crate) fn at_start<F: Seek>(part: &mut Part<F>) -> io::Result<()> {
     Ok(())
 }
 
-fn least(size: usize, most: usize) -> usize
-    ensures { result ≤ most }
-{
-    if size < most { size } else { most }
-}
-
 // Reads on in the file of a part; there is nothing to read where it has none.
-fn read_on<F: Read>(part: &mut Part<F>, space: &mut [u8]) -> io::Result<usize>
+pub(crate) fn read_on<F: Read>(part: &mut Part<F>, space: &mut [u8]) -> io::Result<usize>
     ensures { IfOk result (λ n. n ≤ length space.new) }
 {
     match &mut part.file {
@@ -95,67 +88,19 @@ fn read_on<F: Read>(part: &mut Part<F>, space: &mut [u8]) -> io::Result<usize>
 }
 
 // Loads the start of a part, and answers how many bytes it put there. The only error is that of the file's seek or
-// read;
-// after it some of the space may be written, and it is as long as it was.
+// read; after it some of the space may be written, and it is as long as it was.
 pub fn load<F: Read + Seek>(part: &mut Part<F>, space: &mut [u8]) -> io::Result<usize>
     ensures within { IfOk result (λ n. n ≤ length space.new) }
     ensures kept { length space.new ≡ length space.old }
 {
     at_start(part)?;
-    let count = least(part.length, space.len());
+    let count = part.length.min(space.len());
     read_on(part, &mut space[..count])
 }
 
-// The number in the eight bytes from 8k on; 0 where they are not there.
-fn number_at(stored: &[u8], k: usize) -> u64 {
-    if k < stored.len() / 8 {
-        little::long([
-            stored[8 * k],
-            stored[8 * k + 1],
-            stored[8 * k + 2],
-            stored[8 * k + 3],
-            stored[8 * k + 4],
-            stored[8 * k + 5],
-            stored[8 * k + 6],
-            stored[8 * k + 7],
-        ])
-    } else {
-        0
-    }
-}
-
-fn put_number(table: &mut [u64], k: usize, number: u64) {
-    if k < table.len() {
-        table[k] = number;
-    }
-}
-
+// The whole numbers of eight bytes each, as many as there is room for.
 pub(crate) fn numbers(stored: &[u8], records: &mut [u64]) {
-    for k in 0..records.len() {
-        put_number(records, k, number_at(stored, k));
+    for (number, bytes) in records.iter_mut().zip(stored.as_chunks::<8>().0) {
+        *number = u64::from_le_bytes(*bytes);
     }
-}
-
-// How many whole pieces of 65,536 bytes so many bytes have; a short one, which may be empty, is read after them.
-pub(crate) fn pieces_of(bytes: usize) -> usize {
-    bytes / 65536
-}
-
-// How many bytes piece k of so many has.
-fn size_of_piece(bytes: usize, k: usize) -> usize {
-    let full = bytes / 65536;
-    if k < full {
-        return 65536;
-    }
-    if k == full { bytes % 65536 } else { 0 }
-}
-
-// Reads the next piece of a part, which is piece k.
-pub(crate) fn read_piece<F: Read>(
-    part: &mut Part<F>,
-    k: usize,
-    piece: &mut [u8],
-) -> io::Result<usize> {
-    let count = least(size_of_piece(part.length, k), piece.len());
-    read_on(part, &mut piece[..count])
 }

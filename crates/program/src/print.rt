@@ -1,4 +1,6 @@
 // What the program prints.
+use crate::Setup;
+use crate::tables::Tables;
 use desk::{
     Line, Tally, counts_of, not_sealed_line, opening_line, record_at, refusal_line, transaction_at,
 };
@@ -7,10 +9,8 @@ use std::io;
 use terms::Refusal;
 
 fn print(rt: &impl Print, line: Line) -> io::Result<()> {
-    let length = line.length;
-    let bytes = line.bytes;
-    if length <= 128 {
-        rt.write_all(&bytes[..length])?;
+    if let Some(text) = line.bytes.get(..line.length) {
+        rt.write_all(text)?;
     }
     Ok(())
 }
@@ -18,11 +18,6 @@ fn print(rt: &impl Print, line: Line) -> io::Result<()> {
 // "A refused opening prints only "refused" and the number." A store that cannot be made is one.
 pub(crate) fn refused(rt: &impl Print, refusal: Refusal) -> io::Result<()> {
     print(rt, refusal_line(refusal))
-}
-
-pub(crate) fn is_refused(stepped: Stepped) -> bool {
-    let answer = stepped.answer;
-    0 < answer.number()
 }
 
 pub(crate) fn refusal(rt: &impl Print, stepped: Stepped) -> io::Result<()> {
@@ -44,31 +39,22 @@ fn records(rt: &impl Print, stored: &[u64]) -> io::Result<()> {
 }
 
 // "With no seal accepted, "not sealed" stands in place of the tx and rec lines."
-fn batch(
-    rt: &impl Print,
-    tally: Tally,
-    log: &[u8],
-    stored: &[u64],
-    results: &[u64],
-) -> io::Result<()> {
-    if tally.sealed {
-        transactions(rt, tally, log, results)?;
-        records(rt, stored)
-    } else {
-        print(rt, not_sealed_line())
+fn batch(rt: &impl Print, tally: Tally, tables: &Tables<'_>) -> io::Result<()> {
+    if !tally.sealed {
+        return print(rt, not_sealed_line());
     }
+    transactions(rt, tally, tables.log, tables.results)?;
+    records(rt, tables.records)
 }
 
 pub(crate) fn all(
     rt: &impl Print,
     tally: Tally,
-    quiet: bool,
-    log: &[u8],
-    stored: &[u64],
-    results: &[u64],
+    setup: Setup,
+    tables: &Tables<'_>,
 ) -> io::Result<()> {
-    if !quiet {
-        batch(rt, tally, log, stored, results)?;
+    if !setup.quiet {
+        batch(rt, tally, tables)?;
     }
     print(rt, counts_of(tally))
 }

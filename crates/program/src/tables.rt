@@ -1,122 +1,92 @@
-// The functions that have the version table. Each does little, since the proof of a function that has a slice of
-// structs
-// grows with what it lends and calls.
-use crate::{Part, files, print};
+// A batch over its tables, which are local arrays.
+use crate::{Part, Setup, files, print};
 use desk::{Tally, begin, offer_all};
-use engine::{State, Stepped};
+use engine::{Answer, State};
 use std::io;
-use std::io::Read;
+use std::io::{Read, Seek};
 use versions::{Version, empty};
 
-pub(crate) fn begin_after(stepped: Stepped) -> Tally {
-    let state = stepped.state;
-    begin(state)
+// What a step reads and writes besides the state, and the log, which it only reads.
+#[derive(Drop)]
+pub(crate) struct Tables<'a> {
+    pub(crate) log: &'a [u8],
+    pub(crate) records: &'a mut [u64],
+    pub(crate) newest: &'a mut [u16],
+    pub(crate) versions: &'a mut [Version],
+    pub(crate) results: &'a mut [u64],
 }
 
-// Offers the steps, piece by piece; the last piece is a short one.
-pub(crate) fn work<F: Read>(
+// How many bytes of the steps are read at a time.
+const PIECE: usize = 65536;
+
+// Offers the steps, piece by piece; the last piece is a short one, which may be empty.
+fn work<F: Read>(
     mut tally: Tally,
     steps: &mut Part<F>,
-    pieces: usize,
-    piece: &mut [u8],
-    log: &[u8],
-    records: &mut [u64],
-    newest: &mut [u16],
-    versions: &mut [Version],
-    results: &mut [u64],
+    tables: &mut Tables<'_>,
 ) -> io::Result<Tally> {
-    for k in 0..pieces {
-        let got = files::read_piece(steps, k, piece)?;
-        tally = offer_all(tally, piece, got, log, records, newest, versions, results);
+    let mut piece = [0; PIECE];
+    let length = steps.length;
+    for k in 0..=length / PIECE {
+        let size = (length - k * PIECE).min(PIECE);
+        let got = files::read_on(steps, &mut piece[..size])?;
+        tally = offer_all(
+            tally,
+            &piece,
+            got,
+            tables.log,
+            tables.records,
+            tables.newest,
+            tables.versions,
+            tables.results,
+        );
     }
-    let rest = files::read_piece(steps, pieces, piece)?;
-    Ok(offer_all(tally, piece, rest, log, records, newest, versions, results))
+    Ok(tally)
 }
 
-// Offers the steps and prints what is after them.
-pub(crate) fn offer_file<R: Print, F: Read>(
-    rt: &R,
-    tally: Tally,
-    quiet: bool,
-    steps: &mut Part<F>,
-    piece: &mut [u8],
-    log: &[u8],
-    records: &mut [u64],
-    newest: &mut [u16],
-    versions: &mut [Version],
-    results: &mut [u64],
-) -> io::Result<()> {
-    let pieces = files::pieces_of(steps.length);
-    let after = work(
-        tally, steps, pieces, piece, log, records, newest, versions, results,
-    )?;
-    print::all(rt, after, quiet, log, records, results)
-}
-
-// An opening that is answered.
-pub(crate) fn go_on<R: Print, F: Read>(
-    rt: &R,
-    stepped: Stepped,
-    quiet: bool,
-    steps: &mut Part<F>,
-    piece: &mut [u8],
-    log: &[u8],
-    records: &mut [u64],
-    newest: &mut [u16],
-    versions: &mut [Version],
-    results: &mut [u64],
-) -> io::Result<()> {
-    if print::is_refused(stepped) {
-        return print::refusal(rt, stepped);
-    }
-    let tally = begin_after(stepped);
-    offer_file(
-        rt, tally, quiet, steps, piece, log, records, newest, versions, results,
-    )
-}
-
-pub(crate) fn open<R: Print, F: Read>(
+// The batch is opened and worked off, and what is after it is printed.
+fn batch<R: Print, F: Read>(
     rt: &R,
     state: State,
-    quiet: bool,
+    setup: Setup,
     steps: &mut Part<F>,
-    piece: &mut [u8],
-    log: &[u8],
-    records: &mut [u64],
-    newest: &mut [u16],
-    versions: &mut [Version],
-    results: &mut [u64],
+    tables: &mut Tables<'_>,
 ) -> io::Result<()> {
-    let stepped = state.open(log, newest, versions, results);
-    go_on(
-        rt, stepped, quiet, steps, piece, log, records, newest, versions, results,
-    )
+    let opened = state.open(tables.log, tables.newest, tables.versions, tables.results);
+    if matches!(opened.answer, Answer::Refused(_, _)) {
+        return print::refusal(rt, opened);
+    }
+    let tally = work(begin(opened.state), steps, tables)?;
+    print::all(rt, tally, setup, tables)
 }
 
-// The version table is a local array.
-pub(crate) fn run<R: Print, F: Read>(
+// A store that was made. The newest-version table is as long as the records. Of the log so much is read that one that is
+// too long is refused.
+pub(crate) fn run_made<R: Print, F: Read + Seek>(
     rt: &R,
     state: State,
-    quiet: bool,
+    setup: Setup,
+    stored: &mut Part<F>,
+    log: &mut Part<F>,
     steps: &mut Part<F>,
-    piece: &mut [u8],
-    log: &[u8],
-    records: &mut [u64],
-    newest: &mut [u16],
-    results: &mut [u64],
 ) -> io::Result<()> {
-    let version = empty();
-    let mut versions = [version; 256];
-    open(
-        rt,
-        state,
-        quiet,
-        steps,
-        piece,
-        log,
-        records,
-        newest,
-        &mut versions,
-        results,
-    )
+    let mut bytes = [0; 8192];
+    files::load(stored, &mut bytes)?;
+    let count = (state.records as usize).min(1024);
+    let mut records = [0; 1024];
+    files::numbers(&bytes, &mut records[..count]);
+    let mut entries = [0; 5720];
+    let length = files::load(log, &mut entries)?;
+    files::at_start(steps)?;
+    let mut newest = [terms::NO_SLOT; 1024];
+    let mut versions = [empty(); 256];
+    let mut results = [0; 256];
+    let mut tables = Tables {
+        log: &entries[..length],
+        records: &mut records[..count],
+        newest: &mut newest[..count],
+        versions: &mut versions,
+        results: &mut results,
+    };
+    batch(rt, state, setup, steps, &mut tables)
 }

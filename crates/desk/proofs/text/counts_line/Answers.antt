@@ -5,12 +5,12 @@ pub returns : goal.returns
 returns c =
     rw (
       c.push_text-4.ensures,
-      c.push_number-third.ensures,
+      c.push_number-3.ensures,
       c.push_text-3.ensures,
-      c.push_number-second.ensures,
+      c.push_number-2.ensures,
       c.push_text-2.ensures,
-      c.push_number-first.ensures,
+      c.push_number.ensures,
       c.push_text.ensures,
-      c.blank.ensures,
+      c.blank-line.ensures,
     )
     (counts_made c.args.steps c.args.refused c.args.waits)

@@ -4,4 +4,4 @@ use Rattle.desk.proofs.text.not_sealed_line.Goals as goal
 
 pub returns : goal.returns
 unfolding not_sealed_line
-returns c = rw (c.push_text.ensures, c.blank.ensures) not_sealed_made
+returns c = rw (c.push_text.ensures, c.blank-line.ensures) not_sealed_made

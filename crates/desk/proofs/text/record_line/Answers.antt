@@ -5,10 +5,10 @@ pub returns : goal.returns
 returns c =
     rw (
       c.push_text-3.ensures,
-      c.push_number-line.ensures,
+      c.push_number-2.ensures,
       c.push_text-2.ensures,
-      c.push_number-begun.ensures,
+      c.push_number.ensures,
       c.push_text.ensures,
-      c.blank.ensures,
+      c.blank-line.ensures,
     )
     (rec_made c.args.number c.args.contents)

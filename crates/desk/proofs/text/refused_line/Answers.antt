@@ -3,5 +3,5 @@ use Rattle.desk.proofs.text.refused_line.Goals as goal
 
 pub returns : goal.returns
 returns c =
-    rw (c.push_text-2.ensures, c.push_number-line.ensures, c.push_text.ensures, c.blank.ensures)
+    rw (c.push_text-2.ensures, c.push_number.ensures, c.push_text.ensures, c.blank-line.ensures)
     (refused_made c.args.number)

@@ -7,12 +7,13 @@ pub returns : goal.returns
 returns c =
     let four : length c.args.values ≡ 4 = omega arith in
     rw (
+      c.push_text-3.ensures,
+      c.push_spaced.ensures,
       c.push_text-2.ensures,
-      c.push_spaced-line.ensures,
-      c.push_outcome.ensures,
-      c.push_number-begun.ensures,
+      c.outcome_word.ensures,
+      c.push_number.ensures,
       c.push_text.ensures,
-      c.blank.ensures,
+      c.blank-line.ensures,
     )
     (tx_made c.args.position c.args.outcome (take c.args.count c.args.values)
     (four_few c.args.values c.args.count four))

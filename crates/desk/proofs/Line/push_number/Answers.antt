@@ -1,5 +1,5 @@
 use Rattle.desk.specs.Text.{decimal}
-use Rattle.desk.proofs.writing.push_number.Goals as goal
+use Rattle.desk.proofs.Line.push_number.Goals as goal
 
 pub returns : goal.returns
 unfolding decimal

@@ -1,4 +1,4 @@
-use Rattle.desk.proofs.writing.+push_digits.Given as goal
+use Rattle.desk.proofs.Line.+push_digits.Given as goal
 
 abbrev pub decreases-push_digits : goal.decreases-push_digits
 decreases-push_digits l = l.most
