@@ -83,9 +83,7 @@ fn place_write(newest: &mut [u16], versions: &mut [Version], position: u64, slot
             previous,
         },
     );
-    if usize::from(number) < newest.len() {
-        newest[usize::from(number)] = slot;
-    }
+    tables::put(newest, usize::from(number), slot);
 }
 
 // "For each write in that partition, ascending".
@@ -101,6 +99,7 @@ pub(crate) fn place_writes(newest: &mut [u16], versions: &mut [Version], plan: P
 }
 
 impl State {
+    // "For each write in that partition, ascending".
     pub fn place(
         self,
         p: usize,
