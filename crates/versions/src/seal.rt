@@ -1,5 +1,5 @@
 // What the seal does with the newest versions: whether all are produced, and their contents taken.
-ghost use Rattle.std.specs.Prelude.{◌≡◌};
+ghost use Rattle.std.specs.Prelude.{◌≡◌, true};
 ghost use Rattle.versions.specs.LawsTable.{slot_named};
 ghost use Rattle.versions.specs.Seal.{slot_of, slot_sound, newest_sound_of, collect_of};
 ghost use Rattle.versions.specs.Table.{entry_of};
@@ -35,17 +35,14 @@ pub fn newest_slot(newest: &[u16], number: usize) -> Option<usize>
     table::slot(newest.get(number).copied().unwrap_or(terms::NO_SLOT))
 }
 
-// "Each record with a newest version takes its contents." With `on` false nothing changes. A record that the
-// newest-version table does not have has no newest version.
-pub fn collect(versions: &[Version], newest: &[u16], records: &mut [u64], on: bool)
-    ensures { records.new
-        ≡ collect_of versions.now newest.now records.old on }
+// "Each record with a newest version takes its contents." A record that the newest-version table does not have has no
+// newest version.
+pub fn collect(versions: &[Version], newest: &[u16], records: &mut [u64])
+    ensures { records.new ≡ collect_of versions.now newest.now records.old true }
 {
-    if on {
-        for (number, record) in records.iter_mut().enumerate() {
-            if let Some(slot) = newest_slot(newest, number) {
-                *record = entry_at(versions, slot).contents;
-            }
+    for (number, record) in records.iter_mut().enumerate() {
+        if let Some(slot) = newest_slot(newest, number) {
+            *record = entry_at(versions, slot).contents;
         }
     }
 }

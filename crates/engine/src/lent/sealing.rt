@@ -78,7 +78,7 @@ pub fn seal(
 {
     match consider_seal(rows, crew, numbers, records, newest, versions) {
         Ok(after) => {
-            collect(versions, newest, records, true);
+            collect(versions, newest, records);
             newest.fill(NO_SLOT);
             clear(versions, versions.len());
             Counted {
