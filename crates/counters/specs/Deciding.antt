@@ -3,13 +3,14 @@
 use Rattle.std.specs.Prelude.{ℕ, Bool, false, not, ◌&&◌, List, [], ◌∷◌, nat_lt, slice_index_or}
 use Rattle.packed.specs.declared.Transaction.{Transaction}
 use Rattle.counters.specs.Actions.{After, goes_on, aborts, act_all, actions_of}
-use Rattle.counters.specs.Working.{WorkingCopy, sets_of, memory_of, start_of}
+use Rattle.counters.specs.Working.{memory_of, start_of}
 use Rattle.counters.specs.declared.Decision.{Decision}
 use Rattle.counters.specs.declared.Outcome.TheVariants.{Committed, Aborted}
+use Rattle.counters.specs.declared.working.WorkingCopy.{WorkingCopy}
 
 -- the actions on the values read
 unfoldable pub worked_of : Transaction → List ℕ → After WorkingCopy
-worked_of t values = act_all (memory_of (sets_of t)) (actions_of t) (goes_on (start_of values))
+worked_of t values = act_all (memory_of t) (actions_of t) (goes_on (start_of values))
 
 -- "A declared write that no action reached"
 abbrev pub unreached : ℕ → List Bool → List Bool

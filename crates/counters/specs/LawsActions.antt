@@ -1,98 +1,102 @@
 -- Laws of actions over any memory.
-use Rattle.std.specs.Prelude.{◌≡◌, ℕ, zero, suc, ◌+◌, ◌<◌, ◌≤◌, Bool, true}
-use Rattle.std.specs.Prelude.{false, cond, ltb, List, [], ◌∷◌, take, nat_lt, slice_index_or}
+use Rattle.std.specs.Prelude.{◌≡◌, ℕ, zero, suc, ◌+◌, ◌<◌, Result, Ok, Err, IsErr, min}
+use Rattle.std.specs.Prelude.{List, [], ◌∷◌, length, map, take, drop, get_or, slice_index_or}
 use Rattle.std.proofs.Math.Path.{refl, ap}
 use Rattle.std.proofs.Common.{sym, ◌∙◌}
-use native.Mathlib.Omega.{arith}
-use Rattle.std.proofs.Math.Decide.{dec_lt}
-use borrow.Author.Tests.{lt-ltb, le-ltb}
+use native.Mathlib.Numerals.{unary_clauses}
+use Rattle.std.proofs.lemmas.List.{drop_more}
 use Rattle.packed.specs.Decode.{row}
 use Rattle.packed.specs.declared.Action.{Action}
 use Rattle.packed.specs.declared.Action.TheVariants.{Nothing}
 use Rattle.packed.specs.declared.ActionRow.{ActionRow}
-use Rattle.counters.specs.Actions.{Memory, After, goes_on, aborts, abort_if, act, then_act, act_all}
-use Rattle.counters.specs.Working.{WorkingCopy}
-
--- the copy that code keeps in three arrays
-abbrev pub copy_of : List ℕ → List ℕ → List Bool → WorkingCopy
-copy_of values contents reached = record { values = values; contents = contents; reached = reached }
-
--- what code holds after some actions, and what it means
-abbrev pub attempted : Bool → WorkingCopy → After WorkingCopy
-attempted aborted copy = abort_if aborted (goes_on copy)
-
--- of a count, as far as there are places
-abbrev pub at_most_four : ℕ → ℕ
-at_most_four count = cond (nat_lt count 4) count 4
-
-pub at_most_four_is : {r : ℕ} (count : ℕ) → r ≡ at_most_four count → r ≤ 4
-at_most_four_is {r} count same = cases (dec_lt count 4)
-  where
-    cases : Dec (count < 4) → r ≤ 4
-    cases (yes below) = let r_is : r ≡ count = same ∙ rw (lt-ltb count 4 below) in omega arith
-    cases (no above) = let r_is : r ≡ 4 = same ∙ rw (le-ltb count 4 (omega arith)) in omega arith
+use Rattle.packed.specs.declared.Transaction.{Transaction}
+use Rattle.counters.specs.Actions.{Memory, After, goes_on, aborts, act, then_act, act_all, actions_of}
+use Rattle.counters.specs.Working.{memory_of}
+use Rattle.counters.specs.declared.deciding.Aborted.{Aborted}
+use Rattle.counters.specs.declared.working.WorkingCopy.{WorkingCopy}
 
 -- the action in one of the places
-abbrev pub action_at : List ActionRow → ℕ → Action
+abbrev action_at : List ActionRow → ℕ → Action
 action_at actions k = (slice_index_or actions k (row Nothing)).action
 
-take_none : (count : ℕ) → take {A = Action} count [] ≡ []
+take_none : {A : Type 0} (count : ℕ) → take {A = A} count [] ≡ []
 take_none zero = refl
 take_none (suc count) = refl
 
-module _ {M : Type 0} (memory : Memory M) (action : ℕ → Action) (start : After M) where
-  -- what the actions before the k-th leave
-  unfoldable pub ran_to : ℕ → After M
-  ran_to zero = start
-  ran_to (suc k) = then_act memory (action k) (ran_to k)
+-- what code answers after some actions, with the copy that it has then, and what it means
+abbrev pub attempted : Result (Unit {0}) Aborted → WorkingCopy → After WorkingCopy
+attempted (Ok done) copy = goes_on copy
+attempted (Err aborted) copy = aborts
 
-  pub none_ran : start ≡ ran_to 0
-  unfolding ran_to
-  none_ran = refl
+pub err_aborts : (answer : Result (Unit {0}) Aborted) (copy : WorkingCopy) → IsErr answer
+    → attempted answer copy ≡ aborts
+err_aborts (Ok done) copy err = cc
+err_aborts (Err aborted) copy err = refl
 
-  one_ran : (k : ℕ) (m : M) → ran_to k ≡ goes_on m → ran_to (k + 1) ≡ act memory (action k) m
-  unfolding ran_to
-  one_ran k m before = let next : k + 1 ≡ suc k = omega arith in ap ran_to next ∙ ap (then_act memory (action k)) before
-
-  -- the k-th action, as the code takes it: it goes on,
-  pub goes_on_lem : (k : ℕ) (m after : M) (aborted : Bool) → ran_to k ≡ goes_on m
-      → abort_if aborted (goes_on after) ≡ act memory (action k) m → aborted ≡ false → ran_to (k + 1) ≡ goes_on after
-  goes_on_lem k m after aborted before does on =
-      one_ran k m before ∙ sym does ∙ ap (λ aborted. abort_if aborted (goes_on after)) on
-
+module _ {M : Type 0} (memory : Memory M) where
   -- nothing is done after an abort
-  past_abort : (k n : ℕ) → ran_to k ≡ aborts → k ≤ n → ran_to n ≡ aborts
-  unfolding ran_to
-  past_abort k zero aborted below = let same : 0 ≡ k = omega arith in ap ran_to same ∙ aborted
-  past_abort k (suc n) aborted below = cases (dec_lt n k) (past_abort k n aborted)
-    where
-      cases : Dec (n < k) → (k ≤ n → ran_to n ≡ aborts) → ran_to (suc n) ≡ aborts
-      cases (yes above) before = let same : suc n ≡ k = omega arith in ap ran_to same ∙ aborted
-      cases (no above) before = ap (then_act memory (action n)) (before (omega arith))
+  pub all_aborted : (actions : List Action) → act_all memory actions aborts ≡ aborts
+  all_aborted [] = refl
+  all_aborted (action ∷ actions) = all_aborted actions
 
-  -- or it aborts, and so do all of them
-  pub stops : (k n : ℕ) (m after : M) (aborted : Bool) → ran_to k ≡ goes_on m
-      → abort_if aborted (goes_on after) ≡ act memory (action k) m → aborted ≡ true → k < n → ran_to n ≡ aborts
-  stops k n m after aborted before does off within =
-      past_abort (k + 1) n
-      (one_ran k m before ∙ sym does ∙ ap (λ aborted. abort_if aborted (goes_on after)) off)
-      (omega arith)
+-- the actions of rows
+abbrev pub actions_in : List ActionRow → List Action
+actions_in rows = map (λ (x : ActionRow). x.action) rows
 
-  -- four places of which those within the count are actions
-  pub all_ran : (count : ℕ)
-      → act_all memory (take count (action 0 ∷ action 1 ∷ action 2 ∷ action 3 ∷ [])) start ≡ ran_to (at_most_four count)
-  unfolding ran_to
-  all_ran zero = refl
-  all_ran (suc zero) = refl
-  all_ran (suc (suc zero)) = refl
-  all_ran (suc (suc (suc zero))) = refl
-  all_ran (suc (suc (suc (suc count)))) =
-      let past : ltb (suc (suc (suc (suc count)))) 4 ≡ false = le-ltb (suc (suc (suc (suc count)))) 4 (omega arith) in
-      rw (past, take_none count)
+-- the actions of so many places: where there is no row, nothing is done
+abbrev padded : ℕ → List ActionRow → List Action
+padded zero rows = []
+padded (suc places) [] = Nothing ∷ padded places []
+padded (suc places) (x ∷ rows) = x.action ∷ padded places rows
 
--- the tests of take and floor, from what the code compared
-pub short : {held contents c : ℕ} → held ≡ contents → held < c → nat_lt contents c ≡ true
-short {held} {contents} {c} same less = rw (← same) (lt-ltb held c less)
+four_padded : (rows : List ActionRow)
+    → padded 4 rows ≡ action_at rows 0 ∷ action_at rows 1 ∷ action_at rows 2 ∷ action_at rows 3 ∷ []
+four_padded [] = refl
+four_padded (a ∷ []) = refl
+four_padded (a ∷ b ∷ []) = refl
+four_padded (a ∷ b ∷ c ∷ []) = refl
+four_padded (a ∷ b ∷ c ∷ d ∷ rows) = refl
 
-pub enough : {held contents c : ℕ} → held ≡ contents → c ≤ held → nat_lt contents c ≡ false
-enough {held} {contents} {c} same least = rw (← same) (le-ltb held c least)
+module _ (t : Transaction) where
+  nothing_done : (after : After WorkingCopy) → then_act (memory_of t) Nothing after ≡ after
+  nothing_done (goes_on copy) = refl
+  nothing_done aborts = refl
+
+  padded_same : (places count : ℕ) (rows : List ActionRow) (after : After WorkingCopy)
+      → act_all (memory_of t) (actions_in (take (min count places) rows)) after
+      ≡ act_all (memory_of t) (take count (padded places rows)) after
+  padded_same zero count rows after = simp (unary_clauses, take_none {A = Action} count)
+  padded_same (suc places) zero rows after = simp unary_clauses
+  padded_same (suc places) (suc count) [] after =
+      rw (take_none {A = ActionRow} (min (suc count) (suc places)), nothing_done after)
+      (rw (take_none {A = ActionRow} (min count places)) at (padded_same places count [] after))
+  padded_same (suc places) (suc count) (x ∷ rows) after =
+      simp unary_clauses (padded_same places count rows (then_act (memory_of t) x.action after))
+
+  -- a transaction's actions do what those of its rows within the count do
+  pub within_same : (copy : WorkingCopy)
+      → act_all (memory_of t) (actions_in (take (min t.actioncount 4) t.actions)) (goes_on copy)
+      ≡ act_all (memory_of t) (actions_of t) (goes_on copy)
+  within_same copy =
+      padded_same 4 t.actioncount t.actions (goes_on copy)
+      ∙ ap
+      (λ (all : List Action). act_all (memory_of t) (take t.actioncount all) (goes_on copy))
+      (four_padded t.actions)
+
+-- the code's loop over the rows: what is left of them comes to what all come to
+next_row : (t : Transaction) (rows : List ActionRow) (i : ℕ) (none : ActionRow) (copy : WorkingCopy) → i < length rows
+    → act_all (memory_of t) (actions_in (drop (i + 1) rows)) (act (memory_of t) (get_or rows i none).action copy)
+    ≡ act_all (memory_of t) (actions_in (drop i rows)) (goes_on copy)
+next_row t rows i none copy within =
+    ap
+    (λ (left : List ActionRow). act_all (memory_of t) (actions_in left) (goes_on copy))
+    (sym (drop_more rows i none within))
+
+-- after one that aborts all abort
+pub stops : (t : Transaction) (rows : List ActionRow) (i : ℕ) (none : ActionRow) (copy : WorkingCopy)
+    → i < length rows → act (memory_of t) (get_or rows i none).action copy ≡ aborts
+    → aborts ≡ act_all (memory_of t) (actions_in (drop i rows)) (goes_on copy)
+stops t rows i none copy within does =
+    sym (all_aborted (memory_of t) (actions_in (drop (i + 1) rows)))
+    ∙ ap (act_all (memory_of t) (actions_in (drop (i + 1) rows))) (sym does)
+    ∙ next_row t rows i none copy within

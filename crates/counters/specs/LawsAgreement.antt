@@ -27,8 +27,9 @@ use Rattle.counters.specs.OneByOne.{
   one_by_one,
 }
 use Rattle.counters.specs.Storing.{stored, in_four, decision_on, decided_run}
-use Rattle.counters.specs.Working.{WorkingCopy, sets_of, write_place}
+use Rattle.counters.specs.Working.{write_place}
 use Rattle.counters.specs.declared.Decision.{Decision}
+use Rattle.counters.specs.declared.working.WorkingCopy.{WorkingCopy}
 
 -- a decision does to the records what the one-by-one run does with the transaction
 pub record OneStep (t : Transaction) (records : List ℕ) (decision : Decision) : Type 0 where
@@ -56,7 +57,7 @@ module _ (t : Transaction) (records : List ℕ) (declared : Declared (length rec
       let decision = decision_of t.writecount aborts in
       ext_get_or 0 (stored t decision records) records (length_stored t records declared decision)
       (λ q below.
-      rw (none_at (write_place (sets_of t) q)) at (
+      rw (none_at (write_place t q)) at (
       stored_at t records declared decision (false ∷ false ∷ false ∷ false ∷ []) refl refl q))
 
   -- whatever array the values read stand in

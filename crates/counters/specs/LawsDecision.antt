@@ -12,9 +12,10 @@ use Rattle.counters.specs.Actions.{After, goes_on, aborts, actions_of}
 use Rattle.counters.specs.Deciding.{worked_of, unreached, decision_of, decide_of}
 use Rattle.counters.specs.LawsPlaces.{at_place, none_at, true_is_not_false}
 use Rattle.counters.specs.LawsRelated.{all_keep, SideBySide, RelatedAfter, all_related}
-use Rattle.counters.specs.Working.{WorkingCopy, sets_of, write_place, contents_in, written, memory_of, start_of}
+use Rattle.counters.specs.Working.{write_place, contents_in, written, memory_of, start_of}
 use Rattle.counters.specs.declared.Decision.{Decision}
 use Rattle.counters.specs.declared.Outcome.TheVariants.{Aborted}
+use Rattle.counters.specs.declared.working.WorkingCopy.{WorkingCopy}
 
 -- the marks, one by one
 unreached_at : (writecount : ℕ) (reached : List Bool) (j : ℕ) → j < 4
@@ -33,7 +34,7 @@ carried_unreached false reached carried = absurd (true_is_not_false (sym carried
 
 module _ (t : Transaction) where
   abbrev write_at : ℕ → ℕ
-  write_at r = write_place (sets_of t) r
+  write_at r = write_place t r
 
   -- what an action leaves of the writes
   record CopyShape (copy : WorkingCopy) : Type 0 where
@@ -47,7 +48,7 @@ module _ (t : Transaction) where
   ShapedAfter aborts = Unit {0}
 
   written_shaped : (copy : WorkingCopy) → CopyShape copy → (r number : ℕ)
-      → CopyShape (written (sets_of t) copy r number)
+      → CopyShape (written t copy r number)
   unfolding written
   written_shaped copy shaped r number =
       record {
@@ -92,13 +93,13 @@ module _ (t : Transaction) where
   abbrev Twice : WorkingCopy → WorkingCopy → Type 0
   Twice one other = (one ≡ other) × CopyShape one
 
-  side_by_side : SideBySide (memory_of (sets_of t)) (memory_of (sets_of t)) Twice Any Any
+  side_by_side : SideBySide (memory_of t) (memory_of t) Twice Any Any
   side_by_side =
       record {
-        holds_same = λ one other both r any. ap (λ copy. contents_in (sets_of t) copy r) both.0;
+        holds_same = λ one other both r any. ap (λ copy. contents_in t copy r) both.0;
         becomes_same =
             λ one other both r number any.
-            (ap (λ copy. written (sets_of t) copy r number) both.0, written_shaped one both.1 r number);
+            (ap (λ copy. written t copy r number) both.0, written_shaped one both.1 r number);
       }
 
   shaped_after : (one other : After WorkingCopy) → RelatedAfter Twice one other → ShapedAfter one

@@ -16,16 +16,17 @@ use Rattle.counters.specs.Declarations.{Declared}
 use Rattle.counters.specs.LawsPlaces.{at_place, listed_place, one_at_place, none_at}
 use Rattle.counters.specs.LawsRelated.{each_passes, Keeps, keep_within, SideBySide, RelatedAfter, all_related}
 use Rattle.counters.specs.OneByOne.{records_memory, changed_copy}
-use Rattle.counters.specs.Working.{WorkingCopy, sets_of, read_place, write_place}
+use Rattle.counters.specs.Working.{read_place, write_place}
 use Rattle.counters.specs.Working.{contents_in, written, memory_of, start_of}
+use Rattle.counters.specs.declared.working.WorkingCopy.{WorkingCopy}
 
 -- a transaction on records that hold `start` before it
 module _ (t : Transaction) (start : List ℕ) where
   abbrev read_at : ℕ → ℕ
-  read_at r = read_place (sets_of t) r
+  read_at r = read_place t r
 
   abbrev write_at : ℕ → ℕ
-  write_at r = write_place (sets_of t) r
+  write_at r = write_place t r
 
   -- the working copy stands for these records: a declared read is as in them, and they are as before the transaction
   -- but for the new contents of the writes that were reached
@@ -41,12 +42,12 @@ module _ (t : Transaction) (start : List ℕ) where
         (slice_index start r)
 
   holds_same : {copy : WorkingCopy} {records : List ℕ} → Follows copy records → (r : ℕ) → read_at r < 4
-      → contents_in (sets_of t) copy r ≡ slice_index records r
+      → contents_in t copy r ≡ slice_index records r
   unfolding contents_in
   holds_same follows r declared = follows.reads_seen r declared
 
   becomes_same : {copy : WorkingCopy} {records : List ℕ} → Follows copy records → (r number : ℕ) → write_at r < 4
-      → r < length start → Follows (written (sets_of t) copy r number) (slice_set records r number)
+      → r < length start → Follows (written t copy r number) (slice_set records r number)
   unfolding written
   becomes_same {copy} {records} follows r number declared exists =
       record {
@@ -105,7 +106,7 @@ module _ (t : Transaction) (start : List ℕ) where
   Writable r = unlisted t.writes t.writecount r ≡ false
 
   module _ (declared : Declared (length start) t) where
-    side_by_side : SideBySide (memory_of (sets_of t)) records_memory Follows Readable Writable
+    side_by_side : SideBySide (memory_of t) records_memory Follows Readable Writable
     side_by_side =
         record {
           holds_same =

@@ -1,6 +1,7 @@
 -- Laws of the place of a record in a set.
 use Rattle.std.specs.Prelude.{◌≡◌, ℕ, zero, suc, ◌<◌, Bool, true, false, cond, not, ◌&&◌}
 use Rattle.std.specs.Prelude.{◌||◌, List, [], ◌∷◌, get_or, ◌==◌, ◌≢◌, nat_lt, slice_index, slice_index_or, refl}
+use Rattle.std.specs.Prelude.{Option, Some, None}
 use Rattle.std.proofs.Common.{sym, ap, ◌∙◌, arith, ltb-true, eqb-true, lt-ltb, eq-eqb}
 use Rattle.std.proofs.lemmas.Bool.{not-false}
 use Rattle.packed.specs.Records.{unlisted}
@@ -18,8 +19,12 @@ both_right false false both = both
 pub true_is_not_false : true ≡ false → ⊥
 true_is_not_false same = let never : ◌≡◌ {A = ℕ} 0 1 = cc in omega arith
 
+-- a place as the code has it: none where it is none of the four
+abbrev pub place_found : ℕ → Option ℕ
+place_found place = cond (nat_lt place 4) (Some place) None
+
 -- the first of four tests that holds, and 4 where none does
-abbrev first_of : Bool → Bool → Bool → Bool → ℕ
+abbrev pub first_of : Bool → Bool → Bool → Bool → ℕ
 first_of a b c d = cond a 0 (cond b 1 (cond c 2 (cond d 3 4)))
 
 by_first : (P : ℕ → Type 0) (a b c d : Bool)

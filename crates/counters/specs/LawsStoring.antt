@@ -11,7 +11,7 @@ use Rattle.counters.specs.Deciding.{unreached}
 use Rattle.counters.specs.Declarations.{Declared}
 use Rattle.counters.specs.LawsPlaces.{at_place, has_place}
 use Rattle.counters.specs.Storing.{writes_of, store_from, stored}
-use Rattle.counters.specs.Working.{sets_of, write_place}
+use Rattle.counters.specs.Working.{write_place}
 use Rattle.counters.specs.declared.Decision.{Decision}
 
 -- a record that some numbers ascend past stands among them once
@@ -99,7 +99,7 @@ cond_not false x y = refl
 
 module _ (t : Transaction) (records : List ℕ) (declared : Declared (length records) t) where
   abbrev write_at : ℕ → ℕ
-  write_at r = write_place (sets_of t) r
+  write_at r = write_place t r
 
   length_writes : length (writes_of t) ≡ t.writecount
   length_writes =

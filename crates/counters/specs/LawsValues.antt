@@ -9,12 +9,13 @@ use Rattle.counters.specs.Actions.{After, goes_on, aborts, actions_of}
 use Rattle.counters.specs.Deciding.{worked_of, decision_of, decide_of}
 use Rattle.counters.specs.LawsPlaces.{at_place}
 use Rattle.counters.specs.LawsRelated.{all_keep, SideBySide, RelatedAfter, all_related}
-use Rattle.counters.specs.Working.{WorkingCopy, sets_of, read_place, write_place}
+use Rattle.counters.specs.Working.{read_place, write_place}
 use Rattle.counters.specs.Working.{contents_in, written, memory_of, start_of}
+use Rattle.counters.specs.declared.working.WorkingCopy.{WorkingCopy}
 
 module _ (t : Transaction) where
   abbrev read_at : ℕ → ℕ
-  read_at r = read_place (sets_of t) r
+  read_at r = read_place t r
 
   -- two copies that differ at most in values past the read count
   record Same (one other : WorkingCopy) : Type 0 where
@@ -25,7 +26,7 @@ module _ (t : Transaction) where
     pub reached_same : one.reached ≡ other.reached
 
   holds_same : {one other : WorkingCopy} → Same one other → (r : ℕ)
-      → contents_in (sets_of t) one r ≡ contents_in (sets_of t) other r
+      → contents_in t one r ≡ contents_in t other r
   unfolding contents_in
   holds_same {one} {other} same r = cases (dec_lt (read_at r) 4)
     where
@@ -37,15 +38,15 @@ module _ (t : Transaction) where
           get_or-eq_default one.values 0 past_one ∙ sym (get_or-eq_default other.values 0 past_other)
 
   becomes_same : {one other : WorkingCopy} → Same one other → (r number : ℕ)
-      → Same (written (sets_of t) one r number) (written (sets_of t) other r number)
+      → Same (written t one r number) (written t other r number)
   unfolding written
   becomes_same {one} {other} same r number =
       record {
         one_four = length-set one.values (read_at r) number ∙ same.one_four;
         other_four = length-set other.values (read_at r) number ∙ same.other_four;
         values_same = λ i. at i (ℕ_discrete i (read_at r)) (dec_lt i 4);
-        contents_same = ap (λ contents. set contents (write_place (sets_of t) r) number) same.contents_same;
-        reached_same = ap (λ reached. set reached (write_place (sets_of t) r) true) same.reached_same;
+        contents_same = ap (λ contents. set contents (write_place t r) number) same.contents_same;
+        reached_same = ap (λ reached. set reached (write_place t r) true) same.reached_same;
       }
     where
       long_one : length (slice_set one.values (read_at r) number) ≡ 4
@@ -77,7 +78,7 @@ module _ (t : Transaction) where
   abbrev Any : ℕ → Type 0
   Any r = Unit {0}
 
-  side_by_side : SideBySide (memory_of (sets_of t)) (memory_of (sets_of t)) Same Any Any
+  side_by_side : SideBySide (memory_of t) (memory_of t) Same Any Any
   side_by_side =
       record {
         holds_same = λ one other same r any. holds_same same r;

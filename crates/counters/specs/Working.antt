@@ -1,16 +1,11 @@
--- The memory that a transaction's actions work on while it is decided: its own copy of the values read.
+-- The memory that a transaction's actions work on while it is decided: its own copy of the values read. A WorkingCopy
+-- has, of each declared read, what it holds now; of each declared write, the new contents and whether an action reached
+-- it.
 use Rattle.std.specs.Prelude.{ℕ, Bool, true, false, cond, ◌&&◌, List}
 use Rattle.std.specs.Prelude.{[], ◌∷◌, set, ◌==◌, nat_lt, slice_index, slice_set}
 use Rattle.packed.specs.declared.Transaction.{Transaction}
 use Rattle.counters.specs.Actions.{Memory}
-use Rattle.counters.specs.declared.working.Sets.{Sets}
-
--- the transaction's own copy: of each declared read what it holds now; of each declared write the new contents and
--- whether an action reached it
-pub record WorkingCopy : Type 0 where
-  pub values : List ℕ
-  pub contents : List ℕ
-  pub reached : List Bool
+use Rattle.counters.specs.declared.working.WorkingCopy.{WorkingCopy}
 
 -- a record stands at a place of a set, within the count
 abbrev pub stands_at : List ℕ → ℕ → ℕ → ℕ → Bool
@@ -25,31 +20,28 @@ place_in set count number =
     (cond (stands_at set count number 3) 3
     4)))
 
-abbrev pub sets_of : Transaction → Sets
-sets_of t = record { readcount = t.readcount; writecount = t.writecount; reads = t.reads; writes = t.writes }
+abbrev pub read_place : Transaction → ℕ → ℕ
+read_place t number = place_in t.reads t.readcount number
 
-abbrev pub read_place : Sets → ℕ → ℕ
-read_place sets number = place_in sets.reads sets.readcount number
-
-abbrev pub write_place : Sets → ℕ → ℕ
-write_place sets number = place_in sets.writes sets.writecount number
+abbrev pub write_place : Transaction → ℕ → ℕ
+write_place t number = place_in t.writes t.writecount number
 
 -- a record that is a declared read holds its value in the copy
-unfoldable pub contents_in : Sets → WorkingCopy → ℕ → ℕ
-contents_in sets copy number = slice_index copy.values (read_place sets number)
+unfoldable pub contents_in : Transaction → WorkingCopy → ℕ → ℕ
+contents_in t copy number = slice_index copy.values (read_place t number)
 
 -- a record that becomes another number does so among the declared reads, where later actions see it, and among the
 -- declared writes, where it is marked as reached
-unfoldable pub written : Sets → WorkingCopy → ℕ → ℕ → WorkingCopy
-written sets copy number value =
+unfoldable pub written : Transaction → WorkingCopy → ℕ → ℕ → WorkingCopy
+written t copy number value =
     record {
-      values = slice_set copy.values (read_place sets number) value;
-      contents = slice_set copy.contents (write_place sets number) value;
-      reached = slice_set copy.reached (write_place sets number) true;
+      values = slice_set copy.values (read_place t number) value;
+      contents = slice_set copy.contents (write_place t number) value;
+      reached = slice_set copy.reached (write_place t number) true;
     }
 
-abbrev pub memory_of : Sets → Memory WorkingCopy
-memory_of sets = record { holds = contents_in sets; becomes = written sets }
+abbrev pub memory_of : Transaction → Memory WorkingCopy
+memory_of t = record { holds = contents_in t; becomes = written t }
 
 -- before the first action: the values read, and nothing reached
 abbrev pub start_of : List ℕ → WorkingCopy

@@ -3,130 +3,87 @@
 ghost use Rattle.std.specs.Prelude.{◌≡◌};
 ghost use Rattle.counters.specs.Actions.{goes_on, act, act_all, actions_of};
 ghost use Rattle.counters.specs.Deciding.{unreached, decide_of};
-ghost use Rattle.counters.specs.LawsActions.{copy_of, attempted, at_most_four};
-ghost use Rattle.counters.specs.Working.{sets_of, memory_of};
+ghost use Rattle.counters.specs.LawsActions.{attempted};
+ghost use Rattle.counters.specs.Working.{memory_of};
 
-use crate::{Decision, Outcome, working};
-use packed::{Action, ActionRow, Transaction};
-use working::Sets;
+use crate::working::WorkingCopy;
+use crate::{Decision, Outcome};
+use packed::{Action, Transaction};
 
-// What an action does, by the table of kinds, and whether it aborts.
-fn one_action(
-    sets: Sets,
-    row: ActionRow,
-    values: &mut [u64],
-    contents: &mut [u64],
-    reached: &mut [bool],
-) -> bool
-    ensures { attempted result (copy_of values.new contents.new reached.new)
-        ≡ act (memory_of sets) row.action
-        (copy_of values.old contents.old reached.old) }
-{
-    let action = row.action;
-    match action {
-        Action::Nothing => false,
-        Action::Set { r, c } => {
-            working::write(sets, values, contents, reached, r, c);
-            false
-        }
-        Action::Add { r, c } => {
-            let sum = working::contents_in(sets, values, r).wrapping_add(c);
-            working::write(sets, values, contents, reached, r, sum);
-            false
-        }
-        Action::Take { r, c } => {
-            let held = working::contents_in(sets, values, r);
-            if held < c {
-                return true;
+// Why no action is run after the one that answers it, and nothing is kept.
+#[derive(Clone, Copy, Debug, PartialEq, Eq)]
+pub struct Aborted;
+
+impl WorkingCopy {
+    // What an action does, by the table of kinds.
+    fn one_action(&mut self, meaning: &Transaction, action: Action) -> Result<(), Aborted>
+        ensures { attempted result self.new ≡ act (memory_of meaning.now) action self.old }
+    {
+        match action {
+            Action::Nothing => {}
+            Action::Set { r, c } => self.write(meaning, r, c),
+            Action::Add { r, c } => {
+                let sum = self.contents_in(meaning, r).wrapping_add(c);
+                self.write(meaning, r, sum);
             }
-            working::write(sets, values, contents, reached, r, held - c);
-            false
+            Action::Take { r, c } => match self.contents_in(meaning, r).checked_sub(c) {
+                Some(left) => self.write(meaning, r, left),
+                None => return Err(Aborted),
+            },
+            Action::Copy { r, s } => {
+                let held = self.contents_in(meaning, s);
+                self.write(meaning, r, held);
+            }
+            Action::Move { r, s } => {
+                let target = self.contents_in(meaning, r);
+                let source = self.contents_in(meaning, s);
+                self.write(meaning, r, target.wrapping_add(source));
+                self.write(meaning, s, 0);
+            }
+            Action::Floor { r, c } => {
+                if self.contents_in(meaning, r) < c {
+                    return Err(Aborted);
+                }
+            }
         }
-        Action::Copy { r, s } => {
-            let held = working::contents_in(sets, values, s);
-            working::write(sets, values, contents, reached, r, held);
-            false
-        }
-        Action::Move { r, s } => {
-            let target = working::contents_in(sets, values, r);
-            let source = working::contents_in(sets, values, s);
-            let sum = target.wrapping_add(source);
-            working::write(sets, values, contents, reached, r, sum);
-            working::write(sets, values, contents, reached, s, 0);
-            false
-        }
-        Action::Floor { r, c } => working::contents_in(sets, values, r) < c,
+        Ok(())
     }
-}
 
-fn at_most_four(count: u8) -> usize
-    ensures { result ≡ at_most_four count }
-{
-    if count < 4 { count as usize } else { 4 }
-}
-
-// The actions within the count, in order; and whether one of them aborts: none is run after it, and nothing is kept.
-fn all_actions(
-    meaning: Transaction,
-    values: &mut [u64],
-    contents: &mut [u64],
-    reached: &mut [bool],
-) -> bool
-    ensures { attempted result (copy_of values.new contents.new reached.new)
-        ≡ act_all (memory_of (sets_of meaning)) (actions_of meaning)
-        (goes_on (copy_of values.old contents.old reached.old)) }
-{
-    let reads = meaning.reads;
-    let writes = meaning.writes;
-    let sets = Sets {
-        readcount: meaning.readcount,
-        writecount: meaning.writecount,
-        reads,
-        writes,
-    };
-    let actions = meaning.actions;
-    let count = at_most_four(meaning.actioncount);
-    let mut k: usize = 0;
-    while k < count {
-        if one_action(sets, actions[k], values, contents, reached) {
-            return true;
+    // The actions within the count, in order, up to the first that aborts.
+    fn all_actions(&mut self, meaning: &Transaction) -> Result<(), Aborted>
+        ensures { attempted result self.new
+            ≡ act_all (memory_of meaning.now) (actions_of meaning.now) (goes_on self.old) }
+    {
+        let within = usize::from(meaning.actioncount).min(4);
+        for row in &meaning.actions[..within] {
+            self.one_action(meaning, row.action)?;
         }
-        k += 1;
+        Ok(())
     }
-    false
 }
 
 // The declared writes that no action reached.
 fn unreached(writecount: u8, reached: [bool; 4]) -> [bool; 4]
     ensures { result ≡ unreached writecount reached }
 {
-    [
-        (0 < writecount) & !reached[0],
-        (1 < writecount) & !reached[1],
-        (2 < writecount) & !reached[2],
-        (3 < writecount) & !reached[3],
-    ]
+    std::array::from_fn(|j| (j < usize::from(writecount)) & !reached[j])
 }
 
 // What a transaction decides on the values read.
 pub fn decide(meaning: Transaction, values: [u64; 4]) -> Decision
     ensures { result ≡ decide_of meaning values }
 {
-    let mut held = values;
-    let mut contents: [u64; 4] = [0; 4];
-    let mut reached: [bool; 4] = [false; 4];
-    if all_actions(meaning, &mut held, &mut contents, &mut reached) {
-        let carried = unreached(meaning.writecount, [false; 4]);
-        return Decision {
+    let mut copy = WorkingCopy::of(values);
+    match copy.all_actions(&meaning) {
+        Ok(()) => Decision {
+            outcome: Outcome::Committed,
+            contents: copy.contents,
+            carried: unreached(meaning.writecount, copy.reached),
+        },
+        Err(Aborted) => Decision {
             outcome: Outcome::Aborted,
             contents: [0; 4],
-            carried,
-        };
-    }
-    let carried = unreached(meaning.writecount, reached);
-    Decision {
-        outcome: Outcome::Committed,
-        contents,
-        carried,
+            carried: unreached(meaning.writecount, [false; 4]),
+        },
     }
 }

@@ -8,15 +8,16 @@ mod working;
 pub use deciding::decide;
 
 // How a transaction ends.
-#[derive(Clone, Copy)]
+#[derive(Clone, Copy, Debug, PartialEq, Eq)]
 pub enum Outcome {
     Committed,
     Aborted,
 }
 
 // What a transaction decides: its outcome and, for each declared write, the new contents and whether it is carried. A
-// carried write has contents 0 until its carry; past the write count contents are 0 and nothing is carried.
-#[derive(Clone, Copy)]
+// carried write has contents 0 until its carry; past the write count contents are 0 and nothing is carried. The two
+// arrays are document 01's "new contents, carry marks", and the theorems cite each by itself.
+#[derive(Clone, Copy, Debug, PartialEq, Eq)]
 pub struct Decision {
     pub outcome: Outcome,
     pub contents: [u64; 4],

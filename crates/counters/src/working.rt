@@ -1,89 +1,59 @@
-// The memory that a transaction's actions work on while it is decided: of each declared read what it holds now, of each
-// declared write the new contents and whether an action reached it. The actions change these in place, since a copy for
+// The memory that a transaction's actions work on while it is decided. The actions change it in place, since a copy for
 // each action costs more than the action.
-ghost use Rattle.std.specs.Prelude.{◌≡◌, true, set, slice_index};
-ghost use Rattle.counters.specs.Working.{place_in, read_place, written};
-ghost use Rattle.counters.specs.LawsActions.{copy_of};
+ghost use Rattle.std.specs.Prelude.{◌≡◌};
+ghost use Rattle.counters.specs.LawsPlaces.{place_found};
+ghost use Rattle.counters.specs.Working.{place_in, contents_in, written, start_of};
 
-// What a transaction declares.
-#[derive(Clone, Copy)]
-pub struct Sets {
-    pub readcount: u8,
-    pub writecount: u8,
-    pub reads: [u16; 4],
-    pub writes: [u16; 4],
+use packed::Transaction;
+
+// The transaction's own copy: of each declared read what it holds now, of each declared write the new contents and
+// whether an action reached it.
+#[derive(Clone, Copy, Debug, PartialEq, Eq)]
+pub struct WorkingCopy {
+    pub values: [u64; 4],
+    pub contents: [u64; 4],
+    pub reached: [bool; 4],
 }
 
-// The place of a record among the first `count` of a set, and 4 where it is none of them.
-fn place_in(set: [u16; 4], count: u8, number: u16) -> usize
-    ensures { result ≡ place_in set count number }
+// The place of a record among the first `count` of a set.
+fn place_in(set: &[u16; 4], count: u8, number: u16) -> Option<usize>
+    ensures { result ≡ place_found (place_in set.now count number) }
 {
-    if (0 < count) & (set[0] == number) {
-        return 0;
-    }
-    if (1 < count) & (set[1] == number) {
-        return 1;
-    }
-    if (2 < count) & (set[2] == number) {
-        return 2;
-    }
-    if (3 < count) & (set[3] == number) {
-        return 3;
-    }
-    4
+    (0..4).find(|&place| place < usize::from(count) && set[place] == number)
 }
 
-fn number_at(numbers: &[u64], place: usize) -> u64
-    ensures { result ≡ slice_index numbers.now place }
-{
-    if place < numbers.len() {
-        numbers[place]
-    } else {
-        0
+impl WorkingCopy {
+    // Before the first action: the values read, and nothing reached.
+    pub(crate) fn of(values: [u64; 4]) -> WorkingCopy
+        ensures { result ≡ start_of values }
+    {
+        WorkingCopy {
+            values,
+            contents: [0; 4],
+            reached: [false; 4],
+        }
     }
-}
 
-fn put_number(numbers: &mut [u64], place: usize, number: u64)
-    ensures { numbers.new ≡ set numbers.old place number }
-{
-    if place < numbers.len() {
-        numbers[place] = number;
+    // What a record holds.
+    pub(crate) fn contents_in(&self, meaning: &Transaction, number: u16) -> u64
+        ensures { result ≡ contents_in meaning.now self.now number }
+    {
+        match place_in(&meaning.reads, meaning.readcount, number) {
+            Some(place) => self.values[place],
+            None => 0,
+        }
     }
-}
 
-fn put_mark(marks: &mut [bool], place: usize)
-    ensures { marks.new ≡ set marks.old place true }
-{
-    if place < marks.len() {
-        marks[place] = true;
+    // A record becomes `value`.
+    pub(crate) fn write(&mut self, meaning: &Transaction, number: u16, value: u64)
+        ensures { self.new ≡ written meaning.now self.old number value }
+    {
+        if let Some(read) = place_in(&meaning.reads, meaning.readcount, number) {
+            self.values[read] = value;
+        }
+        if let Some(write) = place_in(&meaning.writes, meaning.writecount, number) {
+            self.contents[write] = value;
+            self.reached[write] = true;
+        }
     }
-}
-
-// What a record holds.
-pub(crate) fn contents_in(sets: Sets, values: &[u64], number: u16) -> u64
-    ensures { result ≡ slice_index values.now (read_place sets number) }
-{
-    let reads = sets.reads;
-    number_at(values, place_in(reads, sets.readcount, number))
-}
-
-// A record becomes `value`.
-pub(crate) fn write(
-    sets: Sets,
-    values: &mut [u64],
-    contents: &mut [u64],
-    reached: &mut [bool],
-    number: u16,
-    value: u64,
-)
-    ensures { copy_of values.new contents.new reached.new
-        ≡ written sets (copy_of values.old contents.old reached.old) number value }
-{
-    let reads = sets.reads;
-    let writes = sets.writes;
-    let read = place_in(reads, sets.readcount, number);
-    let write = place_in(writes, sets.writecount, number);
-    put_number(values, read, value);
-    put_number(contents, write, value);
-    put_mark(reached, write);
 }

@@ -1,10 +1,9 @@
 -- "Advance, worker w. One of: read the next declared read; with none left, decide; carry the next carried write; fill
 -- the next write."
-use Rattle.std.specs.Prelude.{ℕ, ◌+◌, ◌*◌, Bool, true, false, ◌||◌, cond, List, Ok, Err}
+use Rattle.std.specs.Prelude.{ℕ, ◌+◌, ◌*◌, Bool, ◌||◌, cond, List, Option, Some, None, Result, Ok, Err}
 use Rattle.std.specs.Prelude.{[], ◌∷◌, ltb, leb, eqb, length, get_or, set}
-use Rattle.terms.specs.Refusals.{refuse_if, place_of, Verdict}
-use Rattle.terms.specs.declared.refusal.Place.{Place}
-use Rattle.terms.specs.declared.refusal.Refusal.{Refusal}
+use Rattle.terms.specs.Refusals.{refuse_if, refused_at, Verdict}
+use Rattle.terms.specs.declared.position.Position.{Position}
 use Rattle.terms.specs.declared.refusal.Refusal.TheVariants.{
   WrongParameter,
   WrongLength,
@@ -14,6 +13,7 @@ use Rattle.terms.specs.declared.refusal.Refusal.TheVariants.{
   StateOutOfRange,
   BrokenTables,
 }
+use Rattle.terms.specs.declared.refusal.Refused.{Refused}
 use Rattle.packed.specs.Unpacking.{unpack_at_of}
 use Rattle.packed.specs.declared.Transaction.{Transaction}
 use Rattle.counters.specs.Deciding.{decide_of}
@@ -24,6 +24,7 @@ use Rattle.versions.specs.Step.{fill_of}
 use Rattle.versions.specs.declared.Version.{Version}
 use Rattle.versions.specs.declared.chain.Walked.{Walked}
 use Rattle.versions.specs.declared.chain.Walked.TheVariants.{Stored, Found, Broken}
+use Rattle.versions.specs.declared.plan.Fill.{Fill as FillPlan}
 use Rattle.engine.specs.Acts.{unfit, act_of}
 use Rattle.engine.specs.Answers.{refuse_by, and_then}
 use Rattle.engine.specs.Moment.{not_running}
@@ -35,7 +36,7 @@ use Rattle.engine.specs.Tables.{not_of, newest_of}
 use Rattle.engine.specs.Workers.{is_idle, idle_worker, one_more, with_value, count_in, with_decision, with_carry}
 use Rattle.engine.specs.Workers.{with_phase}
 use Rattle.engine.specs.declared.Answer.{Answer}
-use Rattle.engine.specs.declared.Answer.TheVariants.{Accepted, Waits, Refused}
+use Rattle.engine.specs.declared.Answer.TheVariants.{Accepted, Waits}
 use Rattle.engine.specs.declared.Phase.{Phase}
 use Rattle.engine.specs.declared.Phase.TheVariants.{Idle, Reading, Decided}
 use Rattle.engine.specs.declared.Progress.TheVariants.{Unprocessed, Complete}
@@ -103,39 +104,23 @@ look_of s i records newest versions r =
 
 -- ---- what a step changes
 
--- an answer, the worker as it goes on, and where it leaves its transaction how that stands then; no entry is filled
-abbrev pub unfilled : Answer → Worker → Bool → Row → Bool → List ℕ → Move
-unfilled answer worker leaves row completes results =
-    record {
-      answer = answer;
-      worker = worker;
-      leaves = leaves;
-      row = row;
-      fills = false;
-      slot = 0;
-      contents = 0;
-      completes = completes;
-      results = results;
-    }
-
-abbrev pub no_results : List ℕ
-no_results = 0 ∷ 0 ∷ 0 ∷ 0 ∷ []
+-- what a step waits for, the worker as it goes on, where it leaves its transaction how that stands then, and where that
+-- is complete its results; no entry is filled
+abbrev pub unfilled : Option Position → Worker → Option Row → Option (List ℕ) → Move
+unfilled waits worker left results =
+    record { waits = waits; worker = worker; left = left; fill = None; results = results }
 
 -- nothing changes but the worker
 abbrev pub goes_on : Worker → Move
-goes_on worker = unfilled Accepted worker false (row Unprocessed) false no_results
+goes_on worker = unfilled None worker None None
 
--- nothing changes
-abbrev pub keeps : Refusal → Place → Move
-keeps refusal place = unfilled (Refused refusal place) idle_worker false (row Unprocessed) false no_results
-
--- 15
-abbrev pub breaks : Move
-breaks = keeps BrokenTables (place_of BrokenTables 0)
+-- 15: nothing changes
+abbrev pub breaks : Result Move Refused
+breaks = Err (refused_at BrokenTables 0)
 
 -- "the worker drops all it read and becomes idle, the transaction becomes Unprocessed"
 abbrev pub waits_for : ℕ → Move
-waits_for position = unfilled (Waits (record { 0 = position })) idle_worker true (row Unprocessed) false no_results
+waits_for position = unfilled (Some (record { 0 = position })) idle_worker (Some (row Unprocessed)) None
 
 -- value k of so many read, and 0 past them
 abbrev pub value_or : List ℕ → ℕ → ℕ → ℕ
@@ -149,28 +134,24 @@ results_of values count =
 -- "completes the transaction: four result numbers at 4i are the values read, then zeros, and the worker becomes idle"
 abbrev pub completed : Outcome → List ℕ → ℕ → Move
 completed outcome values count =
-    unfilled Accepted idle_worker true (row (Complete outcome)) true (results_of values count)
+    unfilled None idle_worker (Some (row (Complete outcome))) (Some (results_of values count))
 
 -- "Filling stores contents and marks produced."
 abbrev pub with_fill : Move → ℕ → ℕ → Move
 with_fill move slot contents =
     record {
-      answer = move.answer;
+      waits = move.waits;
       worker = move.worker;
-      leaves = move.leaves;
-      row = move.row;
-      fills = true;
-      slot = slot;
-      contents = contents;
-      completes = move.completes;
+      left = move.left;
+      fill = Some (record { slot = slot; contents = contents });
       results = move.results;
     }
 
 -- ---- the four acts
 
-abbrev pub reads : Worker → ℕ → Seen → Move
-reads worker k (Contents contents) = goes_on (with_value worker k contents)
-reads worker k (NotYet position) = waits_for position
+abbrev pub reads : Worker → ℕ → Seen → Result Move Refused
+reads worker k (Contents contents) = Ok (goes_on (with_value worker k contents))
+reads worker k (NotYet position) = Ok (waits_for position)
 reads worker k Unsound = breaks
 
 -- "Deciding runs the actions on the values read"; "the decision when there are no writes, completes the transaction"
@@ -183,9 +164,9 @@ decides_by worker writecount decision =
 abbrev pub decides : Worker → Transaction → Move
 decides worker t = decides_by worker t.writecount (decide_of t worker.values)
 
-abbrev pub carries : Worker → ℕ → Seen → Move
-carries worker j (Contents contents) = goes_on (with_carry worker j contents)
-carries worker j (NotYet position) = waits_for position
+abbrev pub carries : Worker → ℕ → Seen → Result Move Refused
+carries worker j (Contents contents) = Ok (goes_on (with_carry worker j contents))
+carries worker j (NotYet position) = Ok (waits_for position)
 carries worker j Unsound = breaks
 
 -- "The last fill .. completes the transaction"
@@ -196,37 +177,45 @@ after_fill worker outcome count carries j writecount =
     (goes_on (with_phase worker (Decided outcome count carries (one_more j))))
 
 -- only a decided worker fills
-abbrev pub fills_in : Phase → Worker → ℕ → ℕ → Move
+abbrev pub fills_in : Phase → Worker → ℕ → ℕ → Result Move Refused
 fills_in Idle worker writecount j = breaks
 fills_in (Reading values) worker writecount j = breaks
 fills_in (Decided outcome values carries fills) worker writecount j =
-    with_fill
+    Ok (with_fill
     (after_fill worker outcome values carries j writecount)
     (slot_of worker.transaction j)
-    (get_or worker.contents j 0)
+    (get_or worker.contents j 0))
 
 -- what an act changes, where a look at a record shows what it shows
-abbrev pub move_by : Act → Worker → Transaction → (ℕ → Seen) → Move
+abbrev pub move_by : Act → Worker → Transaction → (ℕ → Seen) → Result Move Refused
 move_by (Read k) worker t look = reads worker k (look (get_or t.reads k 0))
-move_by Decide worker t look = decides worker t
+move_by Decide worker t look = Ok (decides worker t)
 move_by (Carry j) worker t look = carries worker j (look (write_of t j))
 move_by (Fill j) worker t look = fills_in worker.phase worker t.writecount j
 
-abbrev pub move_of : State → Worker → List ℕ → List ℕ → List ℕ → List Version → Move
+abbrev pub move_of : State → Worker → List ℕ → List ℕ → List ℕ → List Version → Result Move Refused
 move_of s worker log records newest versions =
     move_by (act_of worker (meaning_at s log worker.transaction)) worker (meaning_at s log worker.transaction)
     (look_of s worker.transaction records newest versions)
 
 -- ---- the change made
 
-abbrev pub moved_state : State → ℕ → ℕ → Move → State
-moved_state s w i move =
-    with_worker (cond move.leaves (with_row s i move.row) s) w move.worker
+-- the transaction as the worker leaves it, where it does
+abbrev pub with_left : State → ℕ → Option Row → State
+with_left s i None = s
+with_left s i (Some left) = with_row s i left
 
-abbrev pub answered_by : Answer → State → State → Stepped
-answered_by Accepted s after = record { answer = Accepted; state = after }
-answered_by (Waits position) s after = record { answer = Waits position; state = after }
-answered_by (Refused refusal place) s after = refuse_by s refusal place
+abbrev pub moved_state : State → ℕ → ℕ → Move → State
+moved_state s w i move = with_worker (with_left s i move.left) w move.worker
+
+-- "A wait is an accepted step."
+abbrev pub answer_of : Option Position → Answer
+answer_of None = Accepted
+answer_of (Some position) = Waits position
+
+abbrev pub with_filled : List Version → Option FillPlan → List Version
+with_filled versions None = versions
+with_filled versions (Some fill) = fill_of versions fill
 
 abbrev pub put_four : List ℕ → ℕ → List ℕ → List ℕ
 put_four results at values =
@@ -234,20 +223,28 @@ put_four results at values =
     (at + 3)
     (get_or values 3 0)
 
-abbrev pub carried_out : Move → State → ℕ → ℕ → List Version → List ℕ → Advanced
-carried_out move s w i versions results =
+abbrev pub with_results : List ℕ → ℕ → Option (List ℕ) → List ℕ
+with_results results at None = results
+with_results results at (Some values) = put_four results at values
+
+-- "State and all tables keep their contents."
+abbrev pub kept : Refused → State → List Version → List ℕ → Advanced
+kept why s versions results =
+    record { stepped = refuse_by s why.refusal why.place; versions = versions; results = results }
+
+abbrev pub carried_out : Result Move Refused → State → ℕ → ℕ → List Version → List ℕ → Advanced
+carried_out (Ok move) s w i versions results =
     record {
-      stepped = answered_by move.answer s (moved_state s w i move);
-      versions =
-          cond move.fills (fill_of versions (record { slot = move.slot; contents = move.contents })) versions;
-      results = cond move.completes (put_four results (4 * i) move.results) results;
+      stepped = record { answer = answer_of move.waits; state = moved_state s w i move };
+      versions = with_filled versions move.fill;
+      results = with_results results (4 * i) move.results;
     }
+carried_out (Err why) s w i versions results = kept why s versions results
 
 abbrev pub advanced_when : Verdict → State → ℕ → List ℕ → List ℕ → List ℕ → List Version → List ℕ → Advanced
 advanced_when (Ok _) s w log records newest versions results =
     carried_out (move_of s (worker_at s w) log records newest versions) s w (worker_at s w).transaction versions results
-advanced_when (Err why) s w log records newest versions results =
-    record { stepped = refuse_by s why.refusal why.place; versions = versions; results = results }
+advanced_when (Err why) s w log records newest versions results = kept why s versions results
 
 unfoldable pub advance_of : State → ℕ → List ℕ → List ℕ → List ℕ → List Version → List ℕ → Advanced
 advance_of s w log records newest versions results =

@@ -1,18 +1,32 @@
 -- Laws of claiming.
-use Rattle.std.specs.Prelude.{ℕ, ◌<◌, Bool, false, ◌≡◌, leb}
-use Rattle.std.proofs.Common.{sym, ◌∙◌, arith, leb-false}
+use Rattle.std.specs.Prelude.{ℕ, not, Result, Ok}
+use Rattle.terms.specs.Refusals.{refuse_if, Verdict}
+use Rattle.terms.specs.declared.refusal.Refused.{Refused}
+use Rattle.terms.specs.declared.refusal.Refusal.TheVariants.{
+  WrongMoment,
+  NoSuchParty,
+  WorkerBusyOrIdle,
+  NotUnprocessed,
+  StateOutOfRange,
+}
 use Rattle.engine.specs.Claim.{no_such_claim}
-use Rattle.packed.specs.LawsForm.{not_left, not_right}
-use Rattle.engine.specs.LawsRange.{in_range}
-use Rattle.engine.specs.Range.{out_of_range}
+use Rattle.engine.specs.LawsPlan.{if_accepted}
+use Rattle.engine.specs.Moment.{not_running}
+use Rattle.engine.specs.Range.{row_at, worker_at, out_of_range}
+use Rattle.engine.specs.Rows.{row, is_unprocessed}
+use Rattle.engine.specs.Workers.{is_idle, claimed}
+use Rattle.engine.specs.declared.Progress.TheVariants.{Executing}
 use Rattle.engine.specs.declared.State.{State}
+use Rattle.engine.specs.declared.lent.claiming.Claiming.{Claiming}
 
--- a worker and a transaction that are there have their places in the state; `far` and `absent` are what the tests told
-pub there : {far absent : Bool} (s : State) (w i : ℕ) → far ≡ out_of_range s → far ≡ false
-    → absent ≡ no_such_claim s w i → absent ≡ false → (w < 8) × (i < 64)
-there s w i told_far not_far told_absent not_absent =
-    let ranged = in_range s (sym told_far ∙ not_far) in
-    let none = sym told_absent ∙ not_absent in
-    let worker = leb-false s.workers w (not_left (leb s.workers w) (leb s.size i) none) in
-    let transaction = leb-false s.size i (not_right (leb s.workers w) (leb s.size i) none) in
-    (omega (arith, ranged.few_workers), omega (arith, ranged.few_transactions))
+-- the checks alone
+abbrev pub claim_verdict : State → ℕ → ℕ → Verdict
+claim_verdict s w i =
+    refuse_if (out_of_range s) StateOutOfRange 0
+    (refuse_if (not_running s) WrongMoment 0
+    (refuse_if (no_such_claim s w i) NoSuchParty 0
+    (refuse_if (not (is_idle (worker_at s w))) WorkerBusyOrIdle 0
+    (refuse_if (not (is_unprocessed (row_at s i))) NotUnprocessed 0 (Ok tt)))))
+
+abbrev pub claim_plan : State → ℕ → ℕ → Result Claiming Refused
+claim_plan s w i = if_accepted (claim_verdict s w i) (record { executing = row (Executing w); starting = claimed i })

@@ -1,27 +1,14 @@
--- Loops that join a test over the numbers below a bound.
+-- A test over the numbers below a bound, and the loops and chains that ask it.
 use Rattle.std.specs.Prelude.{ℕ, zero, suc, ◌+◌, ◌≤◌, ◌<◌, Bool, true, false, ◌||◌, ◌≡◌, refl}
-use Rattle.std.proofs.Common.{ap, ◌∙◌, subst, add-one, arith}
+use Rattle.std.specs.Prelude.{List, length, get_or, take}
+use Rattle.std.specs.List.{enumerate_from, list_any}
+use Rattle.std.proofs.Common.{ap, sym, ◌∙◌, subst, add-one, arith}
 use Rattle.std.proofs.Math.Decide.{dec_lt}
+use Rattle.std.proofs.lemmas.List.{take_all, get_or_past}
+use Rattle.std.proofs.lemmas.List.Folds.{list_any_more}
+use Rattle.std.proofs.lemmas.List.FromFn.{length-enumerate_from, get_or-enumerate_from}
 use Rattle.packed.specs.LawsForm.{not_left, not_right}
 use Rattle.engine.specs.Counting.{some_below}
-
--- before the loop no number is tested;
-pub none_tested : (test : ℕ → Bool) → false ≡ some_below 0 test
-unfolding some_below
-none_tested test = refl
-
--- a turn tests one more;
-pub one_tested : {so_far answer : Bool} (test : ℕ → Bool) (k : ℕ) → so_far ≡ some_below k test → answer ≡ test k
-    → (so_far || answer) ≡ some_below (k + 1) test
-unfolding some_below
-one_tested test k tested told = rw (add-one k, tested, told)
-
--- after it all are.
-pub all_tested : {so_far : Bool} (test : ℕ → Bool) (bound k : ℕ) → so_far ≡ some_below k test → k ≤ bound → bound ≤ k
-    → so_far ≡ some_below bound test
-all_tested test bound k tested most least =
-    let all : k ≡ bound = omega arith in
-    tested ∙ ap (λ n. some_below n test) all
 
 -- a test that holds of no number below the bound fails for each of them
 pub none_below : (bound : ℕ) (test : ℕ → Bool) → some_below bound test ≡ false → (k : ℕ) → k < bound → test k ≡ false
@@ -65,3 +52,73 @@ none_past low (suc high) test most none =
         ap (λ n. some_below n test) same
     go rest (no before) =
         rw (none high (omega arith) (omega arith)) (rest (omega arith) ∙ or_none (some_below high test))
+
+-- ---- a chain that asks each entry of a list with its number
+
+-- the first entries; past the last one the test fails
+pub any_first : {A : Type 0} (test : ℕ → A → Bool) (past : A) (bound : ℕ) (xs : List A)
+    → ((k : ℕ) → length xs ≤ k → k < bound → test k past ≡ false)
+    → list_any (λ entry. test entry.0 entry.1) (take bound (enumerate_from 0 xs))
+    ≡ some_below bound (λ k. test k (get_or xs k past))
+unfolding some_below
+any_first test past zero xs none = refl
+any_first {A} test past (suc bound) xs none =
+    go (any_first test past bound xs (λ k more below. none k more (omega (arith, below)))) (dec_lt bound (length xs))
+  where
+    entries : List (ℕ × A)
+    entries = enumerate_from 0 xs
+
+    asks : ℕ × A → Bool
+    asks entry = test entry.0 entry.1
+
+    go : list_any asks (take bound entries) ≡ some_below bound (λ k. test k (get_or xs k past))
+        → Dec (bound < length xs)
+        → list_any asks (take (suc bound) entries)
+        ≡ (some_below bound (λ k. test k (get_or xs k past)) || test bound (get_or xs bound past))
+    go rest (yes there) =
+        let number : 0 + bound ≡ bound = omega arith in
+        ap (λ n. list_any asks (take n entries)) (sym (add-one bound))
+        ∙ list_any_more asks entries bound (0, past) (rw (length-enumerate_from 0 xs) there)
+        ∙ rw (rest, get_or-enumerate_from 0 xs bound (0, past) there, number) refl
+    go rest (no last) =
+        let all : length xs ≤ bound = omega arith in
+        rw (
+          take_all (suc bound) entries (rw (length-enumerate_from 0 xs) (omega (arith, all))),
+          get_or_past xs bound past all,
+          none bound all (omega arith),
+          ← rest,
+          take_all bound entries (rw (length-enumerate_from 0 xs) all),
+        )
+        (or_none (list_any asks entries))
+
+-- all of them, of so many
+pub any_entry : {A : Type 0} (test : ℕ → A → Bool) (past : A) (bound : ℕ) (xs : List A) → length xs ≡ bound
+    → list_any (λ entry. test entry.0 entry.1) (enumerate_from 0 xs)
+    ≡ some_below bound (λ k. test k (get_or xs k past))
+any_entry test past bound xs many =
+    ap (list_any (λ entry. test entry.0 entry.1))
+    (sym (take_all bound (enumerate_from 0 xs) (rw (length-enumerate_from 0 xs) (omega (arith, many)))))
+    ∙ any_first test past bound xs (λ k more below. absurd (omega (arith, many, more, below)))
+
+or_true : (b : Bool) → (b || true) ≡ true
+or_true true = refl
+or_true false = refl
+
+-- a loop that ends at the first number of which a test holds: it is found below the bound;
+pub found_below : (bound : ℕ) (test : ℕ → Bool) (k : ℕ) → k < bound → test k ≡ true → some_below bound test ≡ true
+unfolding some_below
+found_below zero test k below found = absurd (omega (arith, below))
+found_below (suc bound) test k below found = go (found_below bound test k) (dec_lt k bound)
+  where
+    go : (k < bound → test k ≡ true → some_below bound test ≡ true) → Dec (k < bound)
+        → (some_below bound test || test bound) ≡ true
+    go earlier (yes before) = rw (earlier before found) refl
+    go earlier (no last) =
+        let same : k ≡ bound = omega (arith, below) in
+        rw (rw same at found) (or_true (some_below bound test))
+
+-- or the test fails for one number more
+pub none_more : (test : ℕ → Bool) (k : ℕ) → some_below k test ≡ false → test k ≡ false
+    → some_below (k + 1) test ≡ false
+unfolding some_below
+none_more test k before this = rw (add-one k, before, this) refl

@@ -1,38 +1,42 @@
 -- Laws of opening: the way that the code goes.
 use Rattle.std.specs.Prelude.{ℕ, suc, ◌+◌, ◌-◌, ◌%◌, ◌/◌, ◌≤◌, ◌<◌, false}
-use Rattle.std.specs.Prelude.{◌||◌, not, List, ◌≡◌, ltb, eqb, length, Ok, Err}
-use Rattle.std.proofs.Math.Bool.{cond}
+use Rattle.std.specs.Prelude.{◌||◌, not, List, ◌≡◌, ltb, eqb, length, Result, Ok, Err}
 use Rattle.std.proofs.Math.Path.{refl}
 use Rattle.std.proofs.Common.{sym, ap, ◌∙◌, add-one, arith, ltb-false}
+use Rattle.terms.specs.Refusals.{Verdict}
 use Rattle.terms.specs.declared.refusal.Refused.{Refused}
 use Rattle.packed.specs.LawsForm.{not_left, not_right}
 use Rattle.packed.specs.Unpacking.{unpack_at_of}
 use Rattle.versions.specs.Table.{clear_of}
 use Rattle.versions.specs.declared.Version.{Version}
-use Rattle.engine.specs.Answers.{accept, refuse_by, is_accepted, and_then}
+use Rattle.engine.specs.Answers.{accept, refuse_by, and_then}
+use Rattle.engine.specs.LawsPlan.{if_accepted}
+use Rattle.engine.specs.LawsTables.{cleared_all}
 use Rattle.engine.specs.Open.{wrong_batch_length, open_verdict, entries_in, each_in_turn, opened, opened_by, open_of}
-use Rattle.engine.specs.LawsTables.{clear_all}
-use Rattle.engine.specs.Tables.{none_newest, all_empty, all_zero}
+use Rattle.engine.specs.Tables.{none_newest, all_zero}
 use Rattle.engine.specs.declared.State.{State}
 use Rattle.engine.specs.declared.Stepped.{Stepped}
-use Rattle.engine.specs.declared.open.Opening.{Opening}
-use Rattle.terms.specs.Refusals.{Verdict}
 
--- the verdict, with the number of transactions where it accepts
-abbrev pub opening_by : Verdict → ℕ → Opening
-opening_by (Ok _) size = record { verdict = Ok tt; size = size }
-opening_by (Err why) size = record { verdict = Err why; size = 0 }
+-- the number of transactions
+abbrev pub open_plan : State → List ℕ → ℕ → ℕ → ℕ → Result ℕ Refused
+open_plan s log newest versions results = if_accepted (open_verdict s log newest versions results) (entries_in log)
 
-abbrev pub opening_of : State → List ℕ → ℕ → ℕ → ℕ → Opening
-opening_of s log newest versions results = opening_by (open_verdict s log newest versions results) (entries_in log)
+-- the answer with the state after it, and the tables
+abbrev pub stepped_after : Result ℕ Refused → State → Stepped
+stepped_after (Ok size) s = accept (opened s size)
+stepped_after (Err why) s = refuse_by s why.refusal why.place
 
--- the answer and the state after it
-abbrev pub stepped_by : State → Verdict → ℕ → Stepped
-stepped_by s (Ok _) size = accept (opened s size)
-stepped_by s (Err why) size = refuse_by s why.refusal why.place
+abbrev pub newest_after : Result ℕ Refused → List ℕ → List ℕ
+newest_after (Ok size) newest = none_newest newest
+newest_after (Err why) newest = newest
 
-abbrev pub opened_as : State → Opening → Stepped
-opened_as s opening = stepped_by s opening.verdict opening.size
+abbrev pub versions_after : Result ℕ Refused → List Version → List Version
+versions_after (Ok size) versions = clear_of versions (length versions)
+versions_after (Err why) versions = versions
+
+abbrev pub results_after : Result ℕ Refused → List ℕ → List ℕ
+results_after (Ok size) results = all_zero results
+results_after (Err why) results = results
 
 -- ---- each transaction in turn, as a loop
 -- one entry of those that are left
@@ -54,30 +58,6 @@ turn_passed n log count index all below so_far passed =
     ∙ sym (turn n log count index below)
     ∙ so_far
 
--- or it is refused, and so is the opening
-pub turn_refused : (n : ℕ) (log : List ℕ) (count index : ℕ) (all : Verdict) (why : Refused)
-    → index < count → each_in_turn n log (count - index) index ≡ all
-    → (unpack_at_of n log index).verdict ≡ Err why → (unpack_at_of n log index).verdict ≡ all
-turn_refused n log count index all why below so_far found =
-    found
-    ∙ sym (ap (λ v. and_then v (each_in_turn n log (count - (index + 1)) (index + 1))) found)
-    ∙ sym (turn n log count index below)
-    ∙ so_far
-
--- none is left
-pub turns_done : (n : ℕ) (log : List ℕ) (count index : ℕ) (all : Verdict) → count ≤ index
-    → each_in_turn n log (count - index) index ≡ all → Ok tt ≡ all
-turns_done n log count index all done so_far =
-    let none : 0 ≡ count - index = omega arith in
-    ap (λ k. each_in_turn n log k index) none ∙ so_far
-
--- all are left
-pub turns_begin : (n : ℕ) (log : List ℕ) (count : ℕ)
-    → each_in_turn n log (count - 0) 0 ≡ each_in_turn n log count 0
-turns_begin n log count =
-    let all : count - 0 ≡ count = omega arith in
-    ap (λ k. each_in_turn n log k 0) all
-
 -- a batch has at most 64 transactions
 pub batch_most : (bytes : ℕ) → wrong_batch_length bytes ≡ false → bytes / 88 ≤ 64
 batch_most bytes right =
@@ -92,44 +72,41 @@ module _ (s : State) (log newest : List ℕ) (versions : List Version) (results 
   abbrev said : Verdict
   said = open_verdict s log (length newest) (length versions) (length results)
 
-  abbrev comes_to : Opening
-  comes_to = opening_of s log (length newest) (length versions) (length results)
+  abbrev plan : Result ℕ Refused
+  plan = open_plan s log (length newest) (length versions) (length results)
 
-  pub open_stepped : opened_as s comes_to ≡ (open_of s log newest versions results).stepped
+  pub open_stepped : stepped_after plan s ≡ (open_of s log newest versions results).stepped
   unfolding open_of
   open_stepped = go said
     where
-      go : (v : Verdict)
-          → opened_as s (opening_by v (entries_in log)) ≡ (opened_by v s log newest versions results).stepped
+      go : (v : Verdict) → stepped_after (if_accepted v (entries_in log)) s
+          ≡ (opened_by v s log newest versions results).stepped
       go (Ok tt) = refl
       go (Err why) = refl
 
-  pub open_newest : cond (is_accepted comes_to.verdict) (none_newest newest) newest
-      ≡ (open_of s log newest versions results).newest
+  pub open_newest : newest_after plan newest ≡ (open_of s log newest versions results).newest
   unfolding open_of
   open_newest = go said
     where
-      go : (v : Verdict) → cond (is_accepted (opening_by v (entries_in log)).verdict) (none_newest newest) newest
+      go : (v : Verdict) → newest_after (if_accepted v (entries_in log)) newest
           ≡ (opened_by v s log newest versions results).newest
       go (Ok tt) = refl
       go (Err why) = refl
 
-  pub open_versions : clear_of versions (cond (is_accepted comes_to.verdict) (length versions) 0)
-      ≡ (open_of s log newest versions results).versions
+  pub open_versions : versions_after plan versions ≡ (open_of s log newest versions results).versions
   unfolding open_of
-  open_versions = clear_all versions (is_accepted comes_to.verdict) ∙ go said
+  open_versions = go said
     where
-      go : (v : Verdict) → cond (is_accepted (opening_by v (entries_in log)).verdict) (all_empty versions) versions
+      go : (v : Verdict) → versions_after (if_accepted v (entries_in log)) versions
           ≡ (opened_by v s log newest versions results).versions
-      go (Ok tt) = refl
+      go (Ok tt) = cleared_all versions
       go (Err why) = refl
 
-  pub open_results : cond (is_accepted comes_to.verdict) (all_zero results) results
-      ≡ (open_of s log newest versions results).results
+  pub open_results : results_after plan results ≡ (open_of s log newest versions results).results
   unfolding open_of
   open_results = go said
     where
-      go : (v : Verdict) → cond (is_accepted (opening_by v (entries_in log)).verdict) (all_zero results) results
+      go : (v : Verdict) → results_after (if_accepted v (entries_in log)) results
           ≡ (opened_by v s log newest versions results).results
       go (Ok tt) = refl
       go (Err why) = refl

@@ -1,25 +1,32 @@
 -- Laws of refusal 14.
-use Rattle.std.specs.Prelude.{ℕ, ◌+◌, ◌-◌, ◌≤◌, ◌<◌, false, ◌&&◌, ◌||◌, not, [], ◌∷◌, ◌≡◌, ltb, leb, eqb}
+use Rattle.std.specs.Prelude.{ℕ, ◌+◌, ◌^◌, ◌≤◌, ◌<◌, Bool, true, false, ◌&&◌, ◌||◌, not, [], ◌∷◌, ◌≡◌, refl, ltb, leb, eqb}
+use Rattle.std.specs.Prelude.{Option, None, Some, is_some}
+use Rattle.std.specs.Option.{SomeIff}
 use Rattle.std.proofs.Math.Decide.{dec_lt}
-use Rattle.std.proofs.Common.{arith, lt-ltb, le-ltb, ltb-false, leb-false}
+use Rattle.std.proofs.Common.{sym, arith, lt-ltb, le-ltb, ltb-false, leb-false}
 use Rattle.packed.specs.LawsAccepted.{joined, none_of}
 use Rattle.packed.specs.LawsForm.{not_left, not_right}
 use Rattle.terms.specs.Reserved.{no_end}
 use Rattle.engine.specs.Counting.{some_below}
 use Rattle.engine.specs.LawsCounting.{none_below}
+use Rattle.engine.specs.LawsRefused.{never}
 use Rattle.engine.specs.Range.{numbers_wrong, placed_wrong, worker_wrong, row_wrong, out_of_range}
 use Rattle.engine.specs.Range.{placed_by, row_at, worker_at}
 use Rattle.engine.specs.Rows.{executing_by}
 use Rattle.engine.specs.Workers.{is_idle, count_above}
 use Rattle.engine.specs.declared.State.{State}
 
--- a sum above a bound, compared without the sum
-pub above_apart : (bound a b : ℕ) → a ≤ bound → ltb (bound - a) b ≡ ltb bound (a + b)
-above_apart bound a b below = go (dec_lt (bound - a) b)
+-- a sum that has no place in 64 bits
+pub past_the_end : (sum : Option ℕ) (none : Bool) (total : ℕ) → SomeIff sum (total < 2 ^ 64) total
+    → is_some sum ≡ not none → none ≡ ltb no_end total
+past_the_end None true total past told = go (dec_lt no_end total)
   where
-    go : Dec (bound - a < b) → ltb (bound - a) b ≡ ltb bound (a + b)
-    go (yes above) = rw (lt-ltb (bound - a) b above, lt-ltb bound (a + b) (omega arith))
-    go (no inside) = rw (le-ltb (bound - a) b (omega arith), le-ltb bound (a + b) (omega arith))
+    go : Dec (no_end < total) → true ≡ ltb no_end total
+    go (yes above) = rw (lt-ltb no_end total above) refl
+    go (no within) = absurd (past (omega arith))
+past_the_end (Some sum) false total fits told = rw (le-ltb no_end total (omega (arith, fits.0))) refl
+past_the_end None false total past told = never told
+past_the_end (Some sum) true total fits told = never (sym told)
 
 -- what a state has that is not out of range
 pub record InRange (s : State) : Type 0 where

@@ -14,9 +14,9 @@ pub mod LawsLentAdvance
 pub mod LawsLentClaim
 pub mod LawsLentPlace
 pub mod LawsLentSeal
-pub mod LawsMake
 pub mod LawsOpen
 pub mod LawsPlace
+pub mod LawsPlan
 pub mod LawsRange
 pub mod LawsRefused
 pub mod LawsSeal

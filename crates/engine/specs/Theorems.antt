@@ -22,8 +22,8 @@ use Rattle.packed.specs.Unpacking.{unpack_at_of}
 use Rattle.packed.specs.declared.Unpacked.{Unpacked}
 use Rattle.versions.specs.Seal.{newest_sound_of}
 use Rattle.versions.specs.declared.Version.{Version}
-use Rattle.engine.specs.Acts.{unfit, act_of}
-use Rattle.engine.specs.Advance.{wrong_for_advance, work_fits, advance_verdict, look_of, move_of, advanced_when}
+use Rattle.engine.specs.Acts.{unfit}
+use Rattle.engine.specs.Advance.{wrong_for_advance, work_fits, advance_verdict, move_of, advanced_when}
 use Rattle.engine.specs.Advance.{advance_of}
 use Rattle.engine.specs.Answers.{accept, is_accepted, is_refused, refuse_if as refuse_step_if}
 use Rattle.engine.specs.Claim.{no_such_claim, after_claim, claim_of}
@@ -31,7 +31,7 @@ use Rattle.engine.specs.Counting.{some_below}
 use Rattle.engine.specs.LawsEntries.{OfEntry, AtLeastFour, turns_numbers, unpack_numbers, later_numbers}
 use Rattle.engine.specs.LawsEntries.{records_right}
 use Rattle.engine.specs.LawsRange.{in_range, placed_most, holds_below}
-use Rattle.engine.specs.LawsRefused.{never, quiet_move, quiet_keeps}
+use Rattle.engine.specs.LawsRefused.{never, refused_keeps}
 use Rattle.engine.specs.Make.{wrong_parameter, made_if, make_of}
 use Rattle.engine.specs.Moment.{no_batch, not_running, not_planning}
 use Rattle.engine.specs.Open.{wrong_for_opening, wrong_batch_length, entries_in, each_in_turn, open_verdict, opened_by}
@@ -131,10 +131,7 @@ refused_advance s w log records newest versions results =
         × ((advanced_when v s w log records newest versions results).results ≡ results)
     go (Ok tt) =
         let worker = worker_at s w in
-        let t = meaning_at s log worker.transaction in
-        quiet_keeps (move_of s worker log records newest versions)
-        (quiet_move (act_of worker t) worker t (look_of s worker.transaction records newest versions))
-        s w worker.transaction versions results
+        refused_keeps (move_of s worker log records newest versions) s w worker.transaction versions results
     go (Err why) = λ refused. (refl, refl, refl)
 
 pub refused_seal : (s : State) (records newest : List ℕ) (versions : List Version)

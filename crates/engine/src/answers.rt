@@ -1,10 +1,11 @@
 // The answers of the calls.
 ghost use Rattle.std.specs.Prelude.{◌≡◌};
-ghost use Rattle.engine.specs.Answers.{answer_number, answer_place, answer_position, refuse, accept};
-ghost use Rattle.engine.specs.Answers.{refuse_by, is_accepted};
+ghost use Rattle.engine.specs.Answers.{answer_number, answer_place, answer_position, accept};
+ghost use Rattle.engine.specs.Answers.{refuse_by};
+ghost use Rattle.engine.specs.declared.Answer.TheVariants.{Refused};
 
 use crate::{Answer, State, Stepped};
-use terms::{Place, Refusal, Verdict};
+use terms::{Place, Refusal, Refused};
 
 impl Answer {
     // The refusal number, and 0 for an accepted step or a wait.
@@ -42,17 +43,6 @@ impl Answer {
 }
 
 impl State {
-    // "State and all tables keep their contents."
-    pub(crate) fn refused(self, refusal: Refusal, transaction: usize) -> Stepped
-        ensures { result ≡ refuse self refusal transaction }
-    {
-        let place = Place::of(refusal, transaction);
-        Stepped {
-            answer: Answer::Refused(refusal, place),
-            state: self,
-        }
-    }
-
     // A refusal that was found, with its place.
     pub(crate) fn refused_by(self, refusal: Refusal, place: Place) -> Stepped
         ensures { result ≡ refuse_by self refusal place }
@@ -73,11 +63,10 @@ impl State {
     }
 }
 
-pub(crate) fn is_accepted(verdict: Verdict) -> bool
-    ensures { result ≡ is_accepted verdict }
-{
-    match verdict {
-        Ok(()) => true,
-        Err(_) => false,
+impl From<Refused> for Answer {
+    ghost from_gives = { λ why answer. answer ≡ Refused why.refusal why.place };
+
+    fn from(why: Refused) -> Answer {
+        Answer::Refused(why.refusal, why.place)
     }
 }

@@ -1,18 +1,18 @@
 // The steps on a state whose transactions and workers are lent, so that a step copies no more than it changes.
 pub(crate) mod advancing;
 pub(crate) mod claiming;
-pub(crate) mod crew;
+pub(crate) mod entries;
 pub(crate) mod moment;
 pub(crate) mod placing;
 pub(crate) mod range;
 pub(crate) mod sealing;
-pub(crate) mod transactions;
 
-ghost use Rattle.std.specs.Prelude.{◌≡◌, replicate};
-ghost use Rattle.engine.specs.Lent.{unprocessed, joined, numbers_of};
-ghost use Rattle.engine.specs.Workers.{idle_worker};
+ghost use Rattle.std.specs.Prelude.{◌≡◌, []};
+ghost use Rattle.engine.specs.Lent.{joined, numbers_of};
+ghost use Rattle.engine.specs.Range.{placed_by};
+ghost use Rattle.engine.specs.LawsLentPlace.{placed_numbers};
 
-use crate::{Answer, State, rows, workers};
+use crate::{Answer, Row, State, Stepped, Worker, tables};
 pub use advancing::advance;
 pub use claiming::claim;
 pub use placing::place;
@@ -31,6 +31,23 @@ pub struct Numbers {
     pub placed: [u8; 8],
 }
 
+impl Numbers {
+    // How many transactions a partition has placed; none past the eighth.
+    pub(crate) fn placed_by(self, p: usize) -> u8
+        ensures { result ≡ placed_by (joined self [] []) p }
+    {
+        self.placed.get(p).copied().unwrap_or(0)
+    }
+
+    // A partition has placed so many; past the eighth nothing changes.
+    pub(crate) fn with_placed(mut self, p: usize, count: u8) -> Numbers
+        ensures { result ≡ placed_numbers self p count }
+    {
+        tables::put(&mut self.placed, p, count);
+        self
+    }
+}
+
 // A step's answer and the numbers after it.
 #[derive(Clone, Copy)]
 pub struct Counted {
@@ -38,42 +55,43 @@ pub struct Counted {
     pub numbers: Numbers,
 }
 
+impl Counted {
+    // The state that a step leaves, put together again with the transactions and the workers.
+    pub(crate) fn joined(self, rows: [Row; 64], crew: [Worker; 8]) -> Stepped
+        ensures { result ≡ record { answer = self.answer; state = joined self.numbers rows crew } }
+    {
+        let numbers = self.numbers;
+        let placed = numbers.placed;
+        let state = State {
+            records: numbers.records,
+            partitions: numbers.partitions,
+            workers: numbers.workers,
+            next: numbers.next,
+            size: numbers.size,
+            batch: numbers.batch,
+            placed,
+            rows,
+            crew,
+        };
+        Stepped {
+            answer: self.answer,
+            state,
+        }
+    }
+}
+
 // The numbers of a state.
 pub fn numbers_of(state: State) -> Numbers
     ensures { result ≡ numbers_of state }
 {
     let placed = state.placed;
-    let next = state.next;
-    let batch = state.batch;
     Numbers {
         records: state.records,
         partitions: state.partitions,
         workers: state.workers,
-        next,
+        next: state.next,
         size: state.size,
-        batch,
+        batch: state.batch,
         placed,
-    }
-}
-
-// The numbers with transactions and workers that nobody looks at.
-pub(crate) fn alone(numbers: Numbers) -> State
-    ensures { result ≡ joined numbers (replicate 64 unprocessed) (replicate 8 idle_worker) }
-{
-    let row = rows::unprocessed();
-    let worker = workers::idle();
-    let placed = numbers.placed;
-    let next = numbers.next;
-    let batch = numbers.batch;
-    State {
-        records: numbers.records,
-        partitions: numbers.partitions,
-        workers: numbers.workers,
-        next,
-        size: numbers.size,
-        batch,
-        placed,
-        rows: [row; 64],
-        crew: [worker; 8],
     }
 }

@@ -1,9 +1,9 @@
 // Making a store.
-ghost use Rattle.std.specs.Prelude.{◌≡◌, ◌≤◌};
+ghost use Rattle.std.specs.Prelude.{◌≡◌};
 ghost use Rattle.engine.specs.Make.{wrong_parameter, make_of};
 ghost use Rattle.engine.specs.States.{unopened};
 
-use crate::{Made, State, rows, workers};
+use crate::{Made, Row, State, Worker};
 use terms::{BatchNumber, Position, Refusal};
 
 fn is_wrong_parameter(n: usize, p: usize, w: usize, start: Position) -> bool
@@ -13,38 +13,38 @@ fn is_wrong_parameter(n: usize, p: usize, w: usize, start: Position) -> bool
 }
 
 // A store with no batch open.
-fn fresh(n: u16, p: u8, w: u8, start: u64) -> State
-    ensures { result ≡ unopened n p w start }
+#[tactic(auto, unfolding(crate::specs::States::unopened))]
+fn fresh(n: u16, p: u8, w: u8, start: Position) -> State
+    ensures { result ≡ unopened n p w start.0 }
 {
-    let row = rows::unprocessed();
-    let worker = workers::idle();
     State {
         records: n,
         partitions: p,
         workers: w,
-        next: Position(start),
+        next: start,
         size: 0,
         batch: BatchNumber(0),
         placed: [0; 8],
-        rows: [row; 64],
-        crew: [worker; 8],
+        rows: [Row::unprocessed(); 64],
+        crew: [Worker::idle(); 8],
     }
 }
 
 impl State {
     // A store of n records, p partitions and w workers whose first transaction gets the position given.
+    #[tactic(auto, unfolding(crate::specs::Make::make_of))]
     pub fn make(n: usize, p: usize, w: usize, start: Position) -> Made
         ensures { result ≡ make_of n p w start.0 }
     {
         if is_wrong_parameter(n, p, w, start) {
-            let verdict = Err(Refusal::WrongParameter.at(0));
-            let state = fresh(0, 0, 0, 0);
-            return Made { verdict, state };
+            return Made {
+                verdict: Err(Refusal::WrongParameter.at(0)),
+                state: fresh(0, 0, 0, Position(0)),
+            };
         }
-        let state = fresh(n as u16, p as u8, w as u8, start.0);
         Made {
             verdict: Ok(()),
-            state,
+            state: fresh(n as u16, p as u8, w as u8, start),
         }
     }
 }

@@ -1,4 +1,3 @@
 pub mod Chain
-pub mod Clear
-pub mod Lists
 pub mod Seal
+pub mod Table

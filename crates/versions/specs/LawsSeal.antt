@@ -1,28 +1,21 @@
 -- Facts about what the seal does with the newest versions, which the proofs of its callers cite.
-use Rattle.std.specs.Prelude.{Bool, true, false, cond, ◌&&◌, not, List, ◌≡◌, refl, ℕ}
-use Rattle.std.specs.Prelude.{zero, suc, ◌<◌, ◌≤◌, T, eqb, length, get_or, set}
-use Rattle.std.proofs.Common.{sym, ap, ◌∙◌, subst, zero-le, suc-le-suc}
-use Rattle.std.proofs.Common.{not-suc-le-zero, le_of_suc-le-suc, le_refl, le_trans, lt_irrefl, length-set}
-use Rattle.std.proofs.Math.Nat.{le-suc}
+use Rattle.std.specs.Prelude.{Bool, true, false, cond, ◌&&◌, not, List, ◌≡◌, refl, ℕ, zero, suc, ◌<◌, ◌≤◌}
+use Rattle.std.specs.Prelude.{T, eqb, length, get_or, set}
+use Rattle.std.proofs.Common.{sym, ap, ◌∙◌, subst, le_refl, length-set, arith}
+use Rattle.std.proofs.Math.Decide.{ℕ_discrete}
 use Rattle.terms.specs.Reserved.{no_slot}
-use Rattle.versions.specs.Entry.{empty_entry}
 use Rattle.versions.specs.LawsTable.{set_here, set_other}
 use Rattle.versions.specs.Seal.{slot_of, slot_sound, sound_below, newest_sound_of, collect_below, collect_of}
 use Rattle.versions.specs.Table.{entry_of, lesser_of}
 use Rattle.versions.specs.declared.Version.{Version}
 
 -- a number below the next one is the last, or below it
-pub last_or_below : {P : Type 0} (m n : ℕ) → m < suc n → (m ≡ n → P) → (m < n → P) → P
-last_or_below zero zero l f g = f refl
-last_or_below zero (suc n) l f g = g (suc-le-suc zero-le)
-last_or_below (suc m) zero l f g = absurd (not-suc-le-zero (le_of_suc-le-suc l))
-last_or_below (suc m) (suc n) l f g =
-    last_or_below m n (le_of_suc-le-suc l) (λ e. f (ap suc e)) (λ h. g (suc-le-suc h))
-
--- the entry that a newest slot names, as the code looks for it: where the slot is none it looks for no entry, and the
--- empty one stands for it
-abbrev pub named_of : List Version → ℕ → Version
-named_of versions slot = cond (eqb slot no_slot) empty_entry (entry_of versions slot)
+last_or_below : {P : Type 0} (m n : ℕ) → m < suc n → (m ≡ n → P) → (m < n → P) → P
+last_or_below {P} m n less last below = cases (ℕ_discrete m n)
+  where
+    cases : Dec (m ≡ n) → P
+    cases (yes same) = last same
+    cases (no differs) = below (omega arith)
 
 -- ---- the newest contents taken
 take_length : (t : Bool) (records : List ℕ) (number contents : ℕ)
@@ -84,8 +77,8 @@ module _ (versions : List Version) (newest records : List ℕ) (on : Bool) where
       count
       number
       (entry_of versions (slot_of newest count)).contents
-      (λ e. lt_irrefl count (subst (λ (k : ℕ). count < k) e l))
-      ∙ collect_kept count number (le_trans (le-suc count) l)
+      (λ same. absurd (omega arith))
+      ∙ collect_kept count number (omega arith)
 
   collect_turn : (count : ℕ) → count < length records
       → get_or (collect_below versions newest records on (suc count)) count 0
@@ -96,7 +89,7 @@ module _ (versions : List Version) (newest records : List ℕ) (on : Bool) where
       (collect_below versions newest records on count)
       count
       (entry_of versions (slot_of newest count)).contents
-      (subst (λ (k : ℕ). count < k) (sym (collect_below_length versions newest records on count)) l)
+      (rw (collect_below_length versions newest records on count) l)
       ∙ ap
       (λ (k : ℕ).
       cond
@@ -107,27 +100,19 @@ module _ (versions : List Version) (newest records : List ℕ) (on : Bool) where
 
   collect_taken : (count number : ℕ) → number < count → number < length records
       → get_or (collect_below versions newest records on count) number 0 ≡ taken_of versions newest records on number
-  collect_taken zero number h l = absurd (not-suc-le-zero h)
+  collect_taken zero number h l = absurd (omega arith)
   collect_taken (suc count) number h l =
-      last_or_below
-      number
-      count
-      h
-      (λ e.
-      subst
-      (λ (k : ℕ). get_or (collect_below versions newest records on (suc k))
-      number 0 ≡ taken_of versions newest records on number)
-      e
-      (collect_turn number l))
-      (λ g.
+      last_or_below number count h
+      (λ same. let last : count < length records = omega arith in rw same (collect_turn count last))
+      (λ below.
       take_other
       (on && not (eqb (slot_of newest count) no_slot))
       (collect_below versions newest records on count)
       count
       number
       (entry_of versions (slot_of newest count)).contents
-      (λ e. lt_irrefl number (subst (λ (k : ℕ). number < k) (sym e) g))
-      ∙ collect_taken count number g l)
+      (λ same. absurd (omega arith))
+      ∙ collect_taken count number below l)
 
   -- "Each record with a newest version takes its contents", and each other one keeps its own
   pub collect_at : (number : ℕ) → number < length records
@@ -146,19 +131,12 @@ both_right false b e = absurd (subst (λ (t : Bool). T t) (sym e) tt)
 sound_below_lem : (versions : List Version) (newest : List ℕ) (limit count number : ℕ) → number < count
     → sound_below versions newest limit count ≡ true
     → slot_sound (slot_of newest number) (entry_of versions (slot_of newest number)) limit ≡ true
-sound_below_lem versions newest limit zero number h e = absurd (not-suc-le-zero h)
+sound_below_lem versions newest limit zero number h e = absurd (omega arith)
 sound_below_lem versions newest limit (suc count) number h e =
-    last_or_below
-    number
-    count
-    h
-    (λ p.
-    subst
-    (λ (k : ℕ). slot_sound (slot_of newest k) (entry_of versions (slot_of newest k)) limit ≡ true)
-    (sym p)
-    (both_right (sound_below versions newest limit count) _ e))
-    (λ g.
-    sound_below_lem versions newest limit count number g (both_left (sound_below versions newest limit count) _ e))
+    last_or_below number count h
+    (λ same. rw same (both_right (sound_below versions newest limit count) _ e))
+    (λ below.
+    sound_below_lem versions newest limit count number below (both_left (sound_below versions newest limit count) _ e))
 
 -- where the newest slots are sound, each of them is 65,535, or a followed slot whose version is produced
 pub sound_at : (versions : List Version) (newest : List ℕ) (bound number : ℕ) → number < length newest

@@ -1,9 +1,11 @@
 -- Facts about the version table that the proofs of its callers cite: lengths are kept, other entries are as they were,
 -- and a slot past the end changes nothing.
-use Rattle.std.specs.Prelude.{Bool, true, false, cond, ◌&&◌, not, List, [], ◌∷◌, ◌≡◌, refl}
-use Rattle.std.specs.Prelude.{ℕ, zero, suc, ◌<◌, ◌≤◌, T, ltb, eqb, length, get_or, set}
+use Rattle.std.specs.Prelude.{Bool, false, cond, ◌&&◌, not, List, [], ◌∷◌, ◌≡◌, refl}
+use Rattle.std.specs.Prelude.{Option, None, Some}
+use Rattle.std.specs.Prelude.{ℕ, zero, suc, ◌<◌, ◌≤◌, ltb, eqb, length, get_or, set}
 use Rattle.std.proofs.Common.{sym, ap, ◌∙◌, subst, not-suc-le-zero, le_of_suc-le-suc}
-use Rattle.std.proofs.Common.{le_refl, lt_irrefl, lt_of_lt_of_le, ltb→lt, length-set}
+use Rattle.std.proofs.Common.{le_refl, length-set, le-ltb, get_or-set_same, get_or-set_other}
+use Rattle.std.proofs.lemmas.List.{set_past as list_set_past}
 use Rattle.terms.specs.Reserved.{no_slot}
 use Rattle.versions.specs.Entry.{empty_entry, linked_of, ended_of, filled_of}
 use Rattle.versions.specs.Step.{preceding_of, end_at, link_of, fill_of}
@@ -12,24 +14,20 @@ use Rattle.versions.specs.declared.Version.{Version}
 use Rattle.versions.specs.declared.plan.Fill.{Fill}
 use Rattle.versions.specs.declared.plan.Link.{Link}
 
--- ---- lists, at an index that may lie past the end
+-- the slot that a number of the lent tables names: "a slot or 65,535 for none"
+abbrev pub slot_named : ℕ → Option ℕ
+slot_named number = cond (eqb number no_slot) None (Some number)
+
+-- ---- lists, at an index that may lie past the end: three laws of std, in the form in which callers cite them
 pub set_past : {A : Type 0} (xs : List A) (i : ℕ) (y : A) → length xs ≤ i → set xs i y ≡ xs
-set_past [] i y l = refl
-set_past (x ∷ xs) zero y l = absurd (not-suc-le-zero l)
-set_past (x ∷ xs) (suc i) y l = ap (λ (rest : List _). x ∷ rest) (set_past xs i y (le_of_suc-le-suc l))
+set_past = list_set_past
 
 pub set_here : {A : Type 0} (d : A) (xs : List A) (i : ℕ) (y : A) → i < length xs → get_or (set xs i y) i d ≡ y
-set_here d [] i y l = absurd (not-suc-le-zero l)
-set_here d (x ∷ xs) zero y l = refl
-set_here d (x ∷ xs) (suc i) y l = set_here d xs i y (le_of_suc-le-suc l)
+set_here d xs i y l = get_or-set_same xs i y d l
 
 pub set_other : {A : Type 0} (d : A) (xs : List A) (i j : ℕ) (y : A) → (j ≡ i → ⊥)
     → get_or (set xs i y) j d ≡ get_or xs j d
-set_other d [] i j y f = refl
-set_other d (x ∷ xs) zero zero y f = absurd (f refl)
-set_other d (x ∷ xs) zero (suc j) y f = refl
-set_other d (x ∷ xs) (suc i) zero y f = refl
-set_other d (x ∷ xs) (suc i) (suc j) y f = set_other d xs i j y (λ e. f (ap suc e))
+set_other d xs i j y f = get_or-set_other xs i j y d f
 
 -- ---- one entry stored
 pub put_length : (versions : List Version) (slot : ℕ) (version : Version)
@@ -71,11 +69,7 @@ link_length versions plan =
 
 -- a comparison that fails
 not_below_lem : (m n : ℕ) → n ≤ m → ltb m n ≡ false
-not_below_lem m n l = go (ltb m n) (λ t. lt_irrefl m (lt_of_lt_of_le (ltb→lt m n t) l))
-  where
-    go : (t : Bool) → (T t → ⊥) → t ≡ false
-    go true f = absurd (f tt)
-    go false f = refl
+not_below_lem = le-ltb
 
 -- "a refused step": a link for no slot of the table changes neither entry
 pub link_past : (versions : List Version) (plan : Link) → length versions ≤ plan.slot → link_of versions plan ≡ versions

@@ -4,6 +4,5 @@ pub mod Step
 pub mod Chain
 pub mod Seal
 pub mod LawsTable
-pub mod LawsFollow
 pub mod LawsSeal
 pub mod Unique

@@ -25,8 +25,8 @@ pub fn linked(old: Version, position: u64, previous: u16) -> Version
         begin: position,
         end: terms::NO_END,
         previous,
-        contents: old.contents,
         produced: false,
+        ..old
     }
 }
 
@@ -35,11 +35,8 @@ pub fn ended(old: Version, position: u64) -> Version
     ensures { result ≡ ended_of old position }
 {
     Version {
-        begin: old.begin,
         end: position,
-        previous: old.previous,
-        contents: old.contents,
-        produced: old.produced,
+        ..old
     }
 }
 
@@ -48,10 +45,8 @@ pub fn filled(old: Version, contents: u64) -> Version
     ensures { result ≡ filled_of old contents }
 {
     Version {
-        begin: old.begin,
-        end: old.end,
-        previous: old.previous,
         contents,
         produced: true,
+        ..old
     }
 }

@@ -17,7 +17,7 @@ pub use step::{fill, link};
 pub use table::{clear, entry_at, put_at};
 
 // "Each entry has begin, end, previous slot, contents and a produced mark."
-#[derive(Clone, Copy)]
+#[derive(Clone, Copy, Debug, PartialEq, Eq)]
 pub struct Version {
     pub begin: u64,
     pub end: u64,

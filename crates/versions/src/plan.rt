@@ -1,7 +1,7 @@
 // What a step is to write into the table, decided before it is touched.
 
 // The entry to link: its slot, the position that writes it, and the slot that was the newest.
-#[derive(Clone, Copy)]
+#[derive(Clone, Copy, Debug, PartialEq, Eq)]
 pub struct Link {
     pub slot: usize,
     pub position: u64,
@@ -9,7 +9,7 @@ pub struct Link {
 }
 
 // The entry to fill, and its contents.
-#[derive(Clone, Copy)]
+#[derive(Clone, Copy, Debug, PartialEq, Eq)]
 pub struct Fill {
     pub slot: usize,
     pub contents: u64,

@@ -1,42 +1,19 @@
 // What the seal does with the newest versions: whether all are produced, and their contents taken.
 ghost use Rattle.std.specs.Prelude.{◌≡◌};
-ghost use Rattle.versions.specs.Seal.{slot_of, sound_on, take_of, newest_sound_of, collect_of};
-ghost use Rattle.versions.specs.LawsSeal.{named_of};
+ghost use Rattle.versions.specs.LawsTable.{slot_named};
+ghost use Rattle.versions.specs.Seal.{slot_of, slot_sound, newest_sound_of, collect_of};
+ghost use Rattle.versions.specs.Table.{entry_of};
 
 use crate::Version;
-use crate::table::{entry_at, lesser};
+use crate::table::{self, entry_at};
 
-// A record's newest slot: none for a record that the newest-version table does not have.
-pub fn slot_at(newest: &[u16], number: usize) -> u16
-    ensures { result ≡ slot_of newest.now number }
+// A newest slot leaves the table sound: it is none, or a slot below the limit whose version is produced.
+pub fn is_sound(versions: &[Version], number: u16, limit: usize) -> bool
+    ensures { result ≡ slot_sound number (entry_of versions.now number) limit }
 {
-    if number < newest.len() {
-        newest[number]
-    } else {
-        terms::NO_SLOT
-    }
-}
-
-// The entry that a newest slot names. Where it is none no entry is looked for, and the empty one stands for it.
-pub fn entry_named(versions: &[Version], slot: u16) -> Version
-    ensures { result ≡ named_of versions.now slot }
-{
-    if terms::is_no_slot(slot) {
-        return crate::entry::empty();
-    }
-    entry_at(versions, slot as usize)
-}
-
-// A newest slot, with the version there, leaves the table sound: it is none, or a slot below the limit whose version is
-// produced.
-pub fn sound_on(sound: bool, slot: u16, version: Version, limit: usize) -> bool
-    ensures { result ≡ sound_on sound slot version limit }
-{
-    if terms::is_no_slot(slot) {
-        sound
-    } else {
-        let below = (slot as usize) < limit;
-        sound & (below & version.produced)
+    match table::slot(number) {
+        None => true,
+        Some(slot) => slot < limit && entry_at(versions, slot).produced,
     }
 }
 
@@ -45,27 +22,17 @@ pub fn sound_on(sound: bool, slot: u16, version: Version, limit: usize) -> bool
 pub fn newest_sound(versions: &[Version], newest: &[u16], bound: usize) -> bool
     ensures { result ≡ newest_sound_of versions.now newest.now bound }
 {
-    let limit = lesser(bound, versions.len());
-    let mut sound = true;
-    let mut number: usize = 0;
-    while number < newest.len() {
-        let slot = slot_at(newest, number);
-        let version = entry_named(versions, slot);
-        sound = sound_on(sound, slot, version, limit);
-        number = number + 1;
-    }
-    sound
+    let limit = bound.min(versions.len());
+    newest
+        .iter()
+        .all(|&number| is_sound(versions, number, limit))
 }
 
-// A record with a newest version takes its contents.
-pub fn take(records: &mut [u64], number: usize, slot: u16, version: Version, on: bool)
-    ensures { records.new ≡ take_of records.old number slot version on }
+// A record's newest slot: none for a record that the newest-version table does not have.
+pub fn newest_slot(newest: &[u16], number: usize) -> Option<usize>
+    ensures { result ≡ slot_named (slot_of newest.now number) }
 {
-    if on & !terms::is_no_slot(slot) {
-        if number < records.len() {
-            records[number] = version.contents;
-        }
-    }
+    table::slot(newest.get(number).copied().unwrap_or(terms::NO_SLOT))
 }
 
 // "Each record with a newest version takes its contents." With `on` false nothing changes. A record that the
@@ -74,12 +41,11 @@ pub fn collect(versions: &[Version], newest: &[u16], records: &mut [u64], on: bo
     ensures { records.new
         ≡ collect_of versions.now newest.now records.old on }
 {
-    let stop = lesser(records.len(), newest.len());
-    let mut number: usize = 0;
-    while number < stop {
-        let slot = slot_at(newest, number);
-        let version = entry_named(versions, slot);
-        take(records, number, slot, version, on);
-        number = number + 1;
+    if on {
+        for (number, record) in records.iter_mut().enumerate() {
+            if let Some(slot) = newest_slot(newest, number) {
+                *record = entry_at(versions, slot).contents;
+            }
+        }
     }
 }

@@ -1,61 +1,43 @@
 // The table as a run of entries: one out, one in, and the first ones emptied.
-ghost use Rattle.std.specs.Prelude.{◌≡◌, ◌<◌, length};
-ghost use Rattle.versions.specs.Table.{entry_of, put_of, clear_of, lesser_of};
+ghost use Rattle.std.specs.Prelude.{◌≡◌};
+ghost use Rattle.versions.specs.LawsTable.{slot_named};
+ghost use Rattle.versions.specs.Table.{entry_of, put_of, clear_of};
 
 use crate::Version;
+use crate::entry::empty;
 
-// The entry at a slot of the table.
-pub(crate) fn entry(versions: &[Version], slot: usize) -> Version
-    requires { slot < length versions.now }
-    ensures { result ≡ entry_of versions.now slot }
+// The slot that a number of the lent tables names: "a slot or 65,535 for none".
+pub(crate) fn slot(number: u16) -> Option<usize>
+    ensures { result ≡ slot_named number }
 {
-    versions[slot]
-}
-
-// Stores an entry at a slot of the table.
-pub(crate) fn put(versions: &mut [Version], slot: usize, version: Version)
-    requires { slot < length versions.old }
-    ensures { versions.new ≡ put_of versions.old slot version }
-{
-    versions[slot] = version;
+    if terms::is_no_slot(number) {
+        None
+    } else {
+        Some(number as usize)
+    }
 }
 
 // The entry at any slot: past the end of the table it is the empty one.
 pub fn entry_at(versions: &[Version], slot: usize) -> Version
     ensures { result ≡ entry_of versions.now slot }
 {
-    if slot < versions.len() {
-        entry(versions, slot)
-    } else {
-        crate::entry::empty()
-    }
+    versions.get(slot).copied().unwrap_or(empty())
 }
 
-// Stores an entry at any slot: past the end of the table nothing changes.
+// Stores an entry at any slot: past the end of the table nothing changes. The index is compared here, since of what
+// `get_mut` lends a proof does not know afterwards what it holds.
 pub fn put_at(versions: &mut [Version], slot: usize, version: Version)
     ensures { versions.new ≡ put_of versions.old slot version }
 {
     if slot < versions.len() {
-        put(versions, slot, version);
+        versions[slot] = version;
     }
-}
-
-// The lesser of two counts.
-pub fn lesser(a: usize, b: usize) -> usize
-    ensures { result ≡ lesser_of a b }
-{
-    if a < b { a } else { b }
 }
 
 // "the version table with empty entries": so many of the first ones, at most all.
 pub fn clear(versions: &mut [Version], count: usize)
     ensures { versions.new ≡ clear_of versions.old count }
 {
-    let version = crate::entry::empty();
-    let stop = lesser(count, versions.len());
-    let mut slot: usize = 0;
-    while slot < stop {
-        put_at(versions, slot, version);
-        slot = slot + 1;
-    }
+    let stop = count.min(versions.len());
+    versions[..stop].fill(empty());
 }

@@ -1,16 +1,17 @@
 // "Advance, worker w."
-ghost use Rattle.std.specs.Prelude.{◌≡◌, cond, length, set};
-ghost use Rattle.engine.specs.Advance.{advance_of};
+ghost use Rattle.std.specs.Prelude.{◌≡◌, ◌*◌, set};
+ghost use Rattle.engine.specs.Advance.{advance_of, with_filled, with_results};
 ghost use Rattle.engine.specs.Lent.{joined};
-ghost use Rattle.engine.specs.LawsLentAdvance.{aim_by, turn_with, left_by, moved_by};
+ghost use Rattle.engine.specs.LawsAdvance.{row_left};
+ghost use Rattle.engine.specs.LawsLentAdvance.{aim_by, turn_with};
 
-use crate::advance::{Aim, Turn, aimed, carry_out, refused_aim, turn_after_look};
-use crate::lent::crew::{put_worker, worker_at};
-use crate::lent::transactions::put_row;
-use crate::lent::{Numbers, moment, range};
-use crate::{Answer, Row, Worker, tables, workers};
+use crate::advance::{Aim, fill_one, give_results};
+use crate::lent::entries::worker_at;
+use crate::lent::{Numbers, range};
+use crate::moves::Move;
+use crate::{Answer, Row, Worker};
 use packed::unpack_at;
-use terms::Refusal;
+use terms::{Refusal, Refused, refuse_if};
 use versions::Version;
 
 // "Steps check 1, 14, 9, 10, .. 12, .. then, in place and advance, 2 and the one transaction's 4 to 8, then 15", with
@@ -21,42 +22,45 @@ pub(crate) fn consider_advance(
     w: usize,
     worker: Worker,
     log: &[u8],
-    newest: &[u16],
+    newest: usize,
     records: usize,
     versions: usize,
     results: usize,
-) -> Aim
-    ensures { result
-        ≡ aim_by wrong numbers w worker log.now newest.now records versions results }
+) -> Result<Aim, Refused>
+    ensures { result ≡ aim_by wrong numbers w worker log.now newest records versions results }
 {
-    if moment::is_wrong_for_advance(numbers, records, newest.len(), versions, results) {
-        return refused_aim(Refusal::WrongParameter);
-    }
-    if range::is_out_of_range(numbers, wrong) {
-        return refused_aim(Refusal::StateOutOfRange);
-    }
-    if moment::is_not_running(numbers) {
-        return refused_aim(Refusal::WrongMoment);
-    }
-    if numbers.workers as usize <= w {
-        return refused_aim(Refusal::NoSuchParty);
-    }
-    if workers::is_idle(worker) {
-        return refused_aim(Refusal::WorkerBusyOrIdle);
-    }
-    if tables::is_not_of(log.len(), 88 * numbers.size as usize) {
-        return refused_aim(Refusal::WrongLength);
-    }
+    refuse_if(
+        numbers.is_wrong_for_advance(records, newest, versions, results),
+        Refusal::WrongParameter,
+        0,
+    )?;
+    refuse_if(numbers.is_out_of_range(wrong), Refusal::StateOutOfRange, 0)?;
+    refuse_if(numbers.is_not_running(), Refusal::WrongMoment, 0)?;
+    refuse_if(usize::from(numbers.workers) <= w, Refusal::NoSuchParty, 0)?;
+    refuse_if(worker.is_idle(), Refusal::WorkerBusyOrIdle, 0)?;
+    refuse_if(
+        log.len() != 88 * usize::from(numbers.size),
+        Refusal::WrongLength,
+        0,
+    )?;
     let entry = unpack_at(
         log,
-        workers::index(worker.transaction),
-        numbers.records as usize,
+        usize::from(worker.transaction),
+        usize::from(numbers.records),
     );
-    let position = moment::position_of(numbers, worker.transaction);
-    aimed(worker, entry, newest, moment::slots(numbers), position)
+    entry.verdict?;
+    let meaning = entry.meaning;
+    refuse_if(worker.is_unfit(meaning), Refusal::BrokenTables, 0)?;
+    Ok(Aim {
+        worker,
+        meaning,
+        bound: numbers.slots(),
+        position: numbers.position_of(worker.transaction),
+    })
 }
 
 // What an advance changes, decided before anything is touched.
+#[tactic(auto, unfolding(crate::specs::LawsLentAdvance::turn_with))]
 pub(crate) fn turn(
     numbers: Numbers,
     wrong: bool,
@@ -67,7 +71,7 @@ pub(crate) fn turn(
     newest: &[u16],
     versions: &[Version],
     four: usize,
-) -> Turn
+) -> Result<Move, Refused>
     ensures { result
         ≡ turn_with wrong numbers party worker log.now records.now newest.now
         versions.now four }
@@ -78,87 +82,21 @@ pub(crate) fn turn(
         party,
         worker,
         log,
-        newest,
+        newest.len(),
         records.len(),
         versions.len(),
         four,
-    );
-    turn_after_look(versions, records, aim)
+    )?;
+    aim.moved(records, newest, versions)
 }
 
-fn leaving(leaves: bool, transaction: u8, past: usize) -> usize
-    ensures { result ≡ cond leaves transaction past }
+// The transaction as the worker leaves it, where it does.
+pub(crate) fn leave(rows: &mut [Row], transaction: u8, left: Option<Row>)
+    ensures { rows.new ≡ row_left rows.old transaction left }
 {
-    if leaves {
-        workers::index(transaction)
-    } else {
-        past
+    if let Some(row) = left {
+        tables::put(rows, usize::from(transaction), row);
     }
-}
-
-pub(crate) fn answer_of(turn: Turn) -> Answer
-    ensures { result ≡ turn.step.answer }
-{
-    let step = turn.step;
-    step.answer
-}
-
-pub(crate) fn row_of(turn: Turn) -> Row
-    ensures { result ≡ turn.step.row }
-{
-    let step = turn.step;
-    step.row
-}
-
-pub(crate) fn worker_of(turn: Turn) -> Worker
-    ensures { result ≡ turn.step.worker }
-{
-    let step = turn.step;
-    step.worker
-}
-
-// The transaction that the worker leaves; past the last where it leaves none.
-pub(crate) fn left(turn: Turn, past: usize) -> usize
-    ensures { result ≡ left_by turn.step.answer turn.step.leaves turn.transaction past }
-{
-    let step = turn.step;
-    let answer = step.answer;
-    match answer {
-        Answer::Accepted => leaving(step.leaves, turn.transaction, past),
-        Answer::Waits(_) => leaving(step.leaves, turn.transaction, past),
-        Answer::Refused(_, _) => past,
-    }
-}
-
-// The worker that goes on; past the last for a refused step.
-pub(crate) fn moved(turn: Turn, w: usize, past: usize) -> usize
-    ensures { result ≡ moved_by turn.step.answer w past }
-{
-    let step = turn.step;
-    let answer = step.answer;
-    match answer {
-        Answer::Accepted => w,
-        Answer::Waits(_) => w,
-        Answer::Refused(_, _) => past,
-    }
-}
-
-// The transaction and the worker as the advance leaves them.
-pub(crate) fn move_on(rows: &mut [Row], crew: &mut [Worker], party: usize, turn: Turn)
-    ensures { (rows.new
-        ≡ set rows.old
-        (left_by turn.step.answer turn.step.leaves turn.transaction (length rows.old))
-        turn.step.row)
-        × (crew.new
-        ≡ set crew.old (moved_by turn.step.answer party (length crew.old))
-        turn.step.worker) }
-{
-    let transaction = left(turn, rows.len());
-    let row = row_of(turn);
-    put_row(rows, transaction, row);
-    let moving = moved(turn, party, crew.len());
-    let worker = worker_of(turn);
-    put_worker(crew, moving, worker);
 }
 
 // "One of: read the next declared read; with none left, decide; carry the next carried write; fill the next write."
@@ -202,7 +140,14 @@ pub fn advance(
         versions,
         results.len(),
     );
-    carry_out(versions, results, turn);
-    move_on(rows, crew, party, turn);
-    answer_of(turn)
+    match turn {
+        Ok(step) => {
+            leave(rows, worker.transaction, step.left);
+            tables::put(crew, party, step.worker);
+            fill_one(versions, step.fill);
+            give_results(results, worker.transaction, step.results);
+            step.answer()
+        }
+        Err(why) => Answer::from(why),
+    }
 }

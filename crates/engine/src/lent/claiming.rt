@@ -1,79 +1,46 @@
 // "Claim, worker w, transaction i. After planning. The transaction becomes Executing."
-ghost use Rattle.std.specs.Prelude.{◌≡◌, [], length};
+ghost use Rattle.std.specs.Prelude.{◌≡◌};
 ghost use Rattle.engine.specs.Claim.{claim_of};
 ghost use Rattle.engine.specs.Lent.{joined};
-ghost use Rattle.engine.specs.LawsLentClaim.{no_claiming, claiming_of};
+ghost use Rattle.engine.specs.LawsClaim.{claim_plan};
 
-use crate::lent::crew::{put_worker, worker_at};
-use crate::lent::transactions::{put_row, row_at};
-use crate::lent::{Numbers, moment, range};
-use crate::{Answer, Row, Worker, rows as single, workers};
-use terms::{Place, Refusal};
+use crate::lent::entries::{row_at, worker_at};
+use crate::lent::{Numbers, range};
+use crate::{Answer, Row, Worker, tables};
+use terms::{Refusal, Refused, refuse_if};
 
-// What a claim comes to: its answer; and where it is accepted the transaction with how it stands then, and the worker
-// with how it goes on. A refused one has numbers past the last, where nothing changes.
+// What an accepted claim comes to: how the transaction and the worker go on.
 #[derive(Clone, Copy)]
 pub struct Claiming {
-    pub answer: Answer,
-    pub transaction: usize,
     pub executing: Row,
-    pub worker: usize,
     pub starting: Worker,
 }
 
-fn refused_claiming(refusal: Refusal, rows: usize, crew: usize) -> Claiming
-    ensures { result ≡ no_claiming rows crew refusal }
-{
-    let place = Place::of(refusal, 0);
-    let executing = single::unprocessed();
-    let starting = workers::idle();
-    Claiming {
-        answer: Answer::Refused(refusal, place),
-        transaction: rows,
-        executing,
-        worker: crew,
-        starting,
-    }
-}
-
-// "Steps check 1, 14, 9, 10, .. 12, 13": with what 14 says of transactions and workers, the worker and the transaction;
-// of so many transactions and workers.
+// "Steps check 1, 14, 9, 10, .. 12, 13".
+#[tactic(auto, using(crate::specs::LawsPlan::asked))]
 pub(crate) fn consider_claim(
+    rows: &[Row],
+    crew: &[Worker],
     numbers: Numbers,
-    wrong: bool,
     w: usize,
     i: usize,
-    worker: Worker,
-    row: Row,
-    rows: usize,
-    crew: usize,
-) -> Claiming
-    ensures { result ≡ claiming_of numbers wrong w i worker row rows crew }
+) -> Result<Claiming, Refused>
+    ensures { result ≡ claim_plan (joined numbers rows.now crew.now) w i }
 {
-    if range::is_out_of_range(numbers, wrong) {
-        return refused_claiming(Refusal::StateOutOfRange, rows, crew);
-    }
-    if moment::is_not_running(numbers) {
-        return refused_claiming(Refusal::WrongMoment, rows, crew);
-    }
-    if moment::has_no_such_claim(numbers, w, i) {
-        return refused_claiming(Refusal::NoSuchParty, rows, crew);
-    }
-    if !workers::is_idle(worker) {
-        return refused_claiming(Refusal::WorkerBusyOrIdle, rows, crew);
-    }
-    if !single::is_unprocessed(row) {
-        return refused_claiming(Refusal::NotUnprocessed, rows, crew);
-    }
-    let executing = single::executing(w as u8);
-    let starting = workers::starting(i as u8);
-    Claiming {
-        answer: Answer::Accepted,
-        transaction: i,
-        executing,
-        worker: w,
-        starting,
-    }
+    let wrong = range::are_wrong(rows, crew, numbers);
+    refuse_if(numbers.is_out_of_range(wrong), Refusal::StateOutOfRange, 0)?;
+    refuse_if(numbers.is_not_running(), Refusal::WrongMoment, 0)?;
+    refuse_if(numbers.has_no_such_claim(w, i), Refusal::NoSuchParty, 0)?;
+    refuse_if(!worker_at(crew, w).is_idle(), Refusal::WorkerBusyOrIdle, 0)?;
+    refuse_if(
+        !row_at(rows, i).is_unprocessed(),
+        Refusal::NotUnprocessed,
+        0,
+    )?;
+    Ok(Claiming {
+        executing: Row::executing(w as u8),
+        starting: Worker::starting(i as u8),
+    })
 }
 
 pub fn claim(
@@ -89,20 +56,12 @@ pub fn claim(
         × (crew.new
         ≡ (claim_of (joined numbers rows.old crew.old) party number).state.crew)) }
 {
-    let wrong = range::are_wrong(rows, crew, numbers);
-    let before = worker_at(crew, party);
-    let row = row_at(rows, number);
-    let plan = consider_claim(
-        numbers,
-        wrong,
-        party,
-        number,
-        before,
-        row,
-        rows.len(),
-        crew.len(),
-    );
-    put_row(rows, plan.transaction, plan.executing);
-    put_worker(crew, plan.worker, plan.starting);
-    plan.answer
+    match consider_claim(rows, crew, numbers, party, number) {
+        Ok(plan) => {
+            tables::put(rows, number, plan.executing);
+            tables::put(crew, party, plan.starting);
+            Answer::Accepted
+        }
+        Err(why) => why.into(),
+    }
 }

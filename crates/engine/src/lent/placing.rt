@@ -1,100 +1,76 @@
 // "Place, partition p."
-ghost use Rattle.std.specs.Prelude.{◌≡◌, []};
+ghost use Rattle.std.specs.Prelude.{◌≡◌, ◌+◌, ◌≤◌, ◌<◌, []};
+ghost use Rattle.terms.specs.Reserved.{no_end};
 ghost use Rattle.engine.specs.Lent.{joined, counted_of};
-ghost use Rattle.engine.specs.LawsLentPlace.{placing_by, placed_numbers, counted_as};
-ghost use Rattle.engine.specs.Place.{place_of};
-ghost use Rattle.engine.specs.Range.{placed_by};
+ghost use Rattle.engine.specs.LawsPlace.{placing_with, place_plan};
+ghost use Rattle.engine.specs.LawsPlan.{if_accepted};
+ghost use Rattle.engine.specs.Place.{fits, place_of};
 
-use crate::lent::{Counted, Numbers, alone, moment, range};
-use crate::place::{Placing, place_write, refused_placing, write_at};
-use crate::{Answer, Row, Worker, tables};
-use packed::unpack_at;
-use terms::Refusal;
+use crate::lent::{Counted, Numbers, range};
+use crate::place::{Placing, place_writes, some_meets_wrong, writes_of};
+use crate::{Answer, Row, Worker};
+use packed::{Unpacked, unpack_at};
+use terms::{Refusal, Refused, refuse_if};
 use versions::Version;
 
-// How many transactions a partition has placed; none past the eighth.
-pub(crate) fn placed_by(numbers: Numbers, p: usize) -> u8
-    ensures { result ≡ placed_by (joined numbers [] []) p }
-{
-    let placed = numbers.placed;
-    if p < 8 { placed[p] } else { 0 }
-}
-
-// A partition has placed so many; past the eighth nothing changes.
-pub(crate) fn with_placed(numbers: Numbers, p: usize, count: u8) -> Numbers
-    ensures { result ≡ placed_numbers numbers p count }
-{
-    let mut placed = numbers.placed;
-    let next = numbers.next;
-    let batch = numbers.batch;
-    if p < 8 {
-        placed[p] = count;
-    }
-    Numbers {
-        records: numbers.records,
-        partitions: numbers.partitions,
-        workers: numbers.workers,
-        next,
-        size: numbers.size,
-        batch,
-        placed,
-    }
-}
-
-// "Steps check 1, 14, 9, 10, 11, .. then, in place and advance, 2 and the one transaction's 4 to 8, then 15", with what
-// 14 says of transactions and workers.
-pub(crate) fn consider_place(
+// "the one transaction's 4 to 8, then 15", of a transaction whose entry is unpacked.
+fn planned(
     numbers: Numbers,
-    wrong: bool,
+    p: usize,
+    transaction: u8,
+    entry: Unpacked,
+    newest: &[u16],
+) -> Result<Placing, Refused>
+    requires { (1 ≤ numbers.partitions)
+        × ((numbers.next.0 + transaction ≤ no_end) × (transaction < 255)) }
+    ensures { result
+        ≡ if_accepted (fits numbers.partitions p transaction entry newest.now)
+        (placing_with (joined numbers [] []) p transaction entry.meaning) }
+{
+    entry.verdict?;
+    let writes = writes_of(numbers.partitions, p, &entry.meaning);
+    refuse_if(
+        some_meets_wrong(transaction, &writes, newest),
+        Refusal::BrokenTables,
+        0,
+    )?;
+    Ok(Placing {
+        transaction,
+        position: numbers.next.0 + u64::from(transaction),
+        writes,
+        count: transaction + 1,
+    })
+}
+
+// "Steps check 1, 14, 9, 10, 11, .. then, in place and advance, 2 and the one transaction's 4 to 8, then 15".
+#[tactic(auto, using(crate::specs::LawsPlan::asked), unfolding(crate::specs::Place::place_verdict))]
+pub(crate) fn consider_place(
+    rows: &[Row],
+    crew: &[Worker],
+    numbers: Numbers,
     p: usize,
     log: &[u8],
     newest: &[u16],
     versions: usize,
-) -> Placing
-    ensures { result ≡ placing_by wrong numbers p log.now newest.now versions }
+) -> Result<Placing, Refused>
+    ensures { result ≡ place_plan (joined numbers rows.now crew.now) p log.now newest.now versions }
 {
-    if moment::is_wrong_for_place(numbers, newest.len(), versions) {
-        return refused_placing(Refusal::WrongParameter);
-    }
-    if range::is_out_of_range(numbers, wrong) {
-        return refused_placing(Refusal::StateOutOfRange);
-    }
-    if moment::is_not_planning(numbers) {
-        return refused_placing(Refusal::WrongMoment);
-    }
-    if numbers.partitions as usize <= p {
-        return refused_placing(Refusal::NoSuchParty);
-    }
-    let transaction = placed_by(numbers, p);
-    if transaction == numbers.size {
-        return refused_placing(Refusal::PartitionDone);
-    }
-    if tables::is_not_of(log.len(), 88 * numbers.size as usize) {
-        return refused_placing(Refusal::WrongLength);
-    }
-    let entry = unpack_at(log, transaction as usize, numbers.records as usize);
-    let state = alone(numbers);
-    state.planned(p, transaction, entry, newest)
-}
-
-// The partition has placed one more; a refused step leaves the numbers as they are.
-pub(crate) fn placed(numbers: Numbers, p: usize, plan: Placing) -> Counted
-    ensures { result ≡ counted_as numbers p plan }
-{
-    let verdict = plan.verdict;
-    match verdict {
-        Ok(()) => {
-            let after = with_placed(numbers, p, plan.count);
-            Counted {
-                answer: Answer::Accepted,
-                numbers: after,
-            }
-        }
-        Err(why) => Counted {
-            answer: Answer::Refused(why.refusal, why.place),
-            numbers,
-        },
-    }
+    let wrong_length = numbers.is_wrong_for_place(newest.len(), versions);
+    refuse_if(wrong_length, Refusal::WrongParameter, 0)?;
+    let wrong = range::are_wrong(rows, crew, numbers);
+    refuse_if(numbers.is_out_of_range(wrong), Refusal::StateOutOfRange, 0)?;
+    refuse_if(numbers.is_not_planning(), Refusal::WrongMoment, 0)?;
+    refuse_if(
+        usize::from(numbers.partitions) <= p,
+        Refusal::NoSuchParty,
+        0,
+    )?;
+    let transaction = numbers.placed_by(p);
+    refuse_if(transaction == numbers.size, Refusal::PartitionDone, 0)?;
+    let length = 88 * usize::from(numbers.size);
+    refuse_if(log.len() != length, Refusal::WrongLength, 0)?;
+    let entry = unpack_at(log, usize::from(transaction), usize::from(numbers.records));
+    planned(numbers, p, transaction, entry, newest)
 }
 
 // "For each write in that partition, ascending".
@@ -117,15 +93,17 @@ pub fn place(
         ≡ (place_of (joined numbers rows.now crew.now) party log.now
         newest.old versions.old).plans.versions)) }
 {
-    let wrong = range::are_wrong(rows, crew, numbers);
-    let plan = consider_place(numbers, wrong, party, log, newest, versions.len());
-    let first = write_at(plan, 0);
-    place_write(newest, versions, first);
-    let second = write_at(plan, 1);
-    place_write(newest, versions, second);
-    let third = write_at(plan, 2);
-    place_write(newest, versions, third);
-    let fourth = write_at(plan, 3);
-    place_write(newest, versions, fourth);
-    placed(numbers, party, plan)
+    match consider_place(rows, crew, numbers, party, log, newest, versions.len()) {
+        Ok(plan) => {
+            place_writes(newest, versions, plan);
+            Counted {
+                answer: Answer::Accepted,
+                numbers: numbers.with_placed(party, plan.count),
+            }
+        }
+        Err(why) => Counted {
+            answer: why.into(),
+            numbers,
+        },
+    }
 }

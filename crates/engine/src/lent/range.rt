@@ -1,158 +1,111 @@
-// Refusal 14 for lent transactions and workers.
-ghost use Rattle.std.specs.Prelude.{◌≡◌, ◌&&◌, ◌||◌, not, [], ltb, leb, eqb};
-ghost use Rattle.versions.specs.Table.{lesser_of};
+// Refusal 14: "the state has a number out of range".
+ghost use Rattle.std.specs.Prelude.{◌≡◌, ◌&&◌, ◌||◌, not, ◌+◌, [], ltb, leb, eqb};
+ghost use Rattle.terms.specs.Reserved.{no_end};
 ghost use Rattle.engine.specs.Counting.{some_below};
 ghost use Rattle.engine.specs.Lent.{joined};
 ghost use Rattle.engine.specs.LawsHeld.{wrong_among, few_of};
-ghost use Rattle.engine.specs.LawsLent.{settled, executor_of, not_held_by, out_of_range_by};
+ghost use Rattle.engine.specs.LawsLent.{not_held_by, out_of_range_by};
 ghost use Rattle.engine.specs.Range.{numbers_wrong, placed_wrong, worker_wrong, row_wrong};
-ghost use Rattle.engine.specs.Rows.{executing_by};
-ghost use Rattle.engine.specs.Workers.{is_idle, count_above};
 
-use crate::lent::crew::worker_at;
-use crate::lent::transactions::row_at;
-use crate::lent::{Numbers, alone};
-use crate::{Progress, Row, Worker, rows as single, workers};
+use crate::lent::Numbers;
+use crate::lent::entries::{row_at, worker_at};
+use crate::{Progress, Row, Worker};
 
-pub(crate) fn has_wrong_numbers(numbers: Numbers) -> bool
-    ensures { result ≡ (numbers_wrong (joined numbers [] []) || some_below 8 (placed_wrong (joined numbers [] []))) }
+// "Executing by a worker that does not hold it"
+fn is_not_held(crew: &[Worker], i: usize, row: Row) -> bool
+    ensures { result ≡ not_held_by crew.now i row.progress }
 {
-    let state = alone(numbers);
-    state.has_wrong_number() | state.has_wrong_placed()
-}
-
-// The transaction that a worker holds, as an index.
-pub(crate) fn held_index(worker: Worker) -> usize
-    ensures { result ≡ worker.transaction }
-{
-    workers::index(worker.transaction)
-}
-
-// "a worker past W not idle; a worker's transaction not below n, or one of its counts above 4; a worker holding a
-// transaction that is not Executing by it", of a worker that holds this transaction.
-pub(crate) fn busy_wrong(wrong: bool, numbers: Numbers, w: usize, worker: Worker, row: Row) -> bool
-    ensures { result
-        ≡ (wrong
-        || (leb numbers.workers w
-        || leb numbers.size worker.transaction
-        || count_above worker
-        || not (executing_by row w))) }
-{
-    wrong
-        | ((numbers.workers as usize <= w)
-            | (numbers.size <= worker.transaction)
-            | workers::has_count_above(worker)
-            | !single::is_executing_by(row, w))
-}
-
-// The same of any worker, and whether something was wrong before.
-pub(crate) fn worker_wrong(
-    rows: &[Row],
-    wrong: bool,
-    numbers: Numbers,
-    w: usize,
-    worker: Worker,
-) -> bool
-    ensures { result ≡ (wrong || wrong_among numbers.workers numbers.size rows.now w worker) }
-{
-    let idle = workers::is_idle(worker);
-    if idle {
-        return wrong;
+    match row.progress {
+        Progress::Executing(w) => {
+            let worker = worker_at(crew, usize::from(w));
+            !((w < 8) & !worker.is_idle() & (usize::from(worker.transaction) == i))
+        }
+        Progress::Unprocessed | Progress::Complete(_) => false,
     }
-    let held = held_index(worker);
-    let row = row_at(rows, held);
-    busy_wrong(wrong, numbers, w, worker, row)
 }
 
-pub(crate) fn has_wrong_worker(rows: &[Row], crew: &[Worker], numbers: Numbers) -> bool
+impl Numbers {
+    // "F + n above 2^64 − 1"
+    #[tactic(auto, using(crate::specs::LawsRange::past_the_end))]
+    pub(crate) fn runs_out(self, count: usize) -> bool
+        ensures { result ≡ ltb no_end (self.next.0 + count) }
+    {
+        self.next.0.checked_add(count as u64).is_none()
+    }
+
+    // "N, P, W; n above 64; F zero or F + n above 2^64 − 1; batch number not below F"
+    fn has_wrong_number(self) -> bool
+        ensures { result ≡ numbers_wrong (joined self [] []) }
+    {
+        let next = self.next.0;
+        ((self.records < 1) | (1024 < self.records))
+            | ((self.partitions < 1) | (8 < self.partitions))
+            | ((self.workers < 1) | (8 < self.workers))
+            | (64 < self.size)
+            | (next == 0)
+            | self.runs_out(usize::from(self.size))
+            | (next <= self.batch.0)
+    }
+
+    // "a placed count above n, or not 0 past P"
+    fn is_wrong_placed(self, p: usize, placed: u8) -> bool
+        ensures { result ≡ (ltb self.size placed || (leb self.partitions p && not (eqb placed 0))) }
+    {
+        (self.size < placed) | ((usize::from(self.partitions) <= p) & (placed != 0))
+    }
+
+    fn has_wrong_placed(self) -> bool
+        ensures { result ≡ some_below 8 (placed_wrong (joined self [] [])) }
+    {
+        self.placed
+            .iter()
+            .enumerate()
+            .any(|(p, &placed)| self.is_wrong_placed(p, placed))
+    }
+
+    // "a worker past W not idle; a worker's transaction not below n, or one of its counts above 4; a worker holding a
+    // transaction that is not Executing by it"
+    fn is_wrong_worker(self, rows: &[Row], w: usize, worker: Worker) -> bool
+        ensures { result ≡ wrong_among self.workers self.size rows.now w worker }
+    {
+        !worker.is_idle()
+            && ((usize::from(self.workers) <= w)
+                | (self.size <= worker.transaction)
+                | worker.has_count_above()
+                | !row_at(rows, usize::from(worker.transaction)).is_executing_by(w))
+    }
+
+    // The transactions of the batch, and never more than there are.
+    pub(crate) fn transactions(self) -> usize
+        ensures { result ≡ few_of self.size }
+    {
+        usize::from(self.size.min(64))
+    }
+
+    // 14, with what it says of the transactions and the workers.
+    pub(crate) fn is_out_of_range(self, wrong: bool) -> bool
+        ensures { result ≡ out_of_range_by self wrong }
+    {
+        self.has_wrong_number() | self.has_wrong_placed() | wrong
+    }
+}
+
+fn has_wrong_worker(rows: &[Row], crew: &[Worker], numbers: Numbers) -> bool
     ensures { result ≡ some_below 8 (worker_wrong (joined numbers rows.now crew.now)) }
 {
-    let mut wrong = false;
-    let mut w: usize = 0;
-    while w < 8 {
-        let worker = worker_at(crew, w);
-        wrong = worker_wrong(rows, wrong, numbers, w, worker);
-        w = w + 1;
-    }
-    wrong
+    crew.iter()
+        .enumerate()
+        .take(8)
+        .any(|(w, &worker)| numbers.is_wrong_worker(rows, w, worker))
 }
 
-// A transaction that nobody executes.
-pub(crate) fn is_settled(row: Row) -> bool
-    ensures { result ≡ settled row.progress }
-{
-    let progress = row.progress;
-    match progress {
-        Progress::Unprocessed => true,
-        Progress::Executing(_) => false,
-        Progress::Complete(_) => true,
-    }
-}
-
-// The worker that executes a transaction; where nobody does 255, which no worker is.
-pub(crate) fn executor(row: Row) -> usize
-    ensures { result ≡ executor_of row.progress }
-{
-    let progress = row.progress;
-    match progress {
-        Progress::Unprocessed => 255,
-        Progress::Executing(w) => workers::index(w),
-        Progress::Complete(_) => 255,
-    }
-}
-
-// "Executing by a worker that does not hold it", and whether something was wrong before.
-pub(crate) fn unheld(wrong: bool, i: usize, w: usize, worker: Worker) -> bool
-    ensures { result ≡ (wrong || not (ltb w 8 && not (is_idle worker) && eqb worker.transaction i)) }
-{
-    let held = held_index(worker);
-    wrong | !((w < 8) & !workers::is_idle(worker) & (held == i))
-}
-
-pub(crate) fn row_wrong(crew: &[Worker], wrong: bool, i: usize, row: Row) -> bool
-    ensures { result ≡ (wrong || not_held_by crew.now i row.progress) }
-{
-    let settled = is_settled(row);
-    if settled {
-        return wrong;
-    }
-    let w = executor(row);
-    let worker = worker_at(crew, w);
-    unheld(wrong, i, w, worker)
-}
-
-// The transactions of the batch, and never more than there are.
-pub(crate) fn all_transactions(numbers: Numbers) -> usize
-    ensures { result ≡ few_of numbers.size }
-{
-    if numbers.size < 64 {
-        numbers.size as usize
-    } else {
-        64
-    }
-}
-
-// The transactions of the batch that are lent; past the last lent one nothing is Executing. With a bound that the
-// compiler sees to be no more than what is lent, it looks at no length for each of them.
-pub(crate) fn lent_transactions(numbers: Numbers, lent: usize) -> usize
-    ensures { result ≡ lesser_of (few_of numbers.size) lent }
-{
-    let all = all_transactions(numbers);
-    if all < lent { all } else { lent }
-}
-
-pub(crate) fn has_wrong_row(rows: &[Row], crew: &[Worker], numbers: Numbers) -> bool
+fn has_wrong_row(rows: &[Row], crew: &[Worker], numbers: Numbers) -> bool
     ensures { result ≡ some_below 64 (row_wrong (joined numbers rows.now crew.now)) }
 {
-    let stop = lent_transactions(numbers, rows.len());
-    let mut wrong = false;
-    let mut i: usize = 0;
-    while i < stop {
-        let row = row_at(rows, i);
-        wrong = row_wrong(crew, wrong, i, row);
-        i = i + 1;
-    }
-    wrong
+    rows.iter()
+        .enumerate()
+        .take(numbers.transactions())
+        .any(|(i, &row)| is_not_held(crew, i, row))
 }
 
 // What 14 says of the transactions and the workers.
@@ -162,11 +115,4 @@ pub(crate) fn are_wrong(rows: &[Row], crew: &[Worker], numbers: Numbers) -> bool
         || some_below 64 (row_wrong (joined numbers rows.now crew.now))) }
 {
     has_wrong_worker(rows, crew, numbers) | has_wrong_row(rows, crew, numbers)
-}
-
-// 14, with what it says of the transactions and the workers.
-pub(crate) fn is_out_of_range(numbers: Numbers, wrong: bool) -> bool
-    ensures { result ≡ out_of_range_by numbers wrong }
-{
-    has_wrong_numbers(numbers) | wrong
 }

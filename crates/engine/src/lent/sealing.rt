@@ -1,99 +1,56 @@
 // "Seal. After every transaction is Complete."
-ghost use Rattle.std.specs.Prelude.{◌≡◌, ◌||◌, not, []};
+ghost use Rattle.std.specs.Prelude.{◌≡◌, [], length};
 ghost use Rattle.engine.specs.Counting.{some_below};
-ghost use Rattle.engine.specs.Lent.{joined, counted_of};
-ghost use Rattle.engine.specs.LawsLentSeal.{sealing_with, closed_numbers};
+ghost use Rattle.engine.specs.Lent.{joined, numbers_of, counted_of};
+ghost use Rattle.engine.specs.LawsSeal.{seal_plan};
 ghost use Rattle.engine.specs.Moment.{row_unfinished};
-ghost use Rattle.engine.specs.Rows.{is_complete};
-ghost use Rattle.engine.specs.Seal.{seal_of};
+ghost use Rattle.engine.specs.Seal.{closed, seal_of};
 
-use crate::lent::transactions::row_at;
-use crate::lent::{Counted, Numbers, moment, range};
-use crate::seal::{Sealing, closes, refused_seal};
-use crate::{Answer, Row, Worker, rows as single, tables};
-use terms::{BatchNumber, Position, Refusal};
+use crate::lent::entries::row_at;
+use crate::lent::{Counted, Numbers, range};
+use crate::{Answer, Row, Worker};
+use terms::{BatchNumber, NO_SLOT, Position, Refusal, Refused, refuse_if};
 use versions::{Version, clear, collect, newest_sound};
-
-// Whether something was not Complete before, or this transaction is not.
-pub(crate) fn still_unfinished(unfinished: bool, row: Row) -> bool
-    ensures { result ≡ (unfinished || not (is_complete row)) }
-{
-    unfinished | !single::is_complete(row)
-}
 
 pub(crate) fn has_unfinished(rows: &[Row], numbers: Numbers) -> bool
     ensures { result ≡ some_below 64 (row_unfinished (joined numbers rows.now [])) }
 {
-    let stop = range::all_transactions(numbers);
-    let mut unfinished = false;
-    let mut i: usize = 0;
-    while i < stop {
-        let row = row_at(rows, i);
-        unfinished = still_unfinished(unfinished, row);
-        i = i + 1;
-    }
-    unfinished
-}
-
-// "The seal checks 1, 14, 9, 15", with what 14 says of transactions and workers, whether something is not Complete, and
-// whether the newest versions are sound.
-pub(crate) fn consider_seal(
-    numbers: Numbers,
-    wrong: bool,
-    unfinished: bool,
-    sound: bool,
-    records: usize,
-    newest: usize,
-    versions: usize,
-) -> Sealing
-    ensures { result ≡ sealing_with numbers wrong unfinished sound records newest versions }
-{
-    if moment::is_wrong_for_seal(numbers, records, newest, versions) {
-        return refused_seal(Refusal::WrongParameter);
-    }
-    if range::is_out_of_range(numbers, wrong) {
-        return refused_seal(Refusal::StateOutOfRange);
-    }
-    if (numbers.size == 0) | unfinished {
-        return refused_seal(Refusal::WrongMoment);
-    }
-    if !sound {
-        return refused_seal(Refusal::BrokenTables);
-    }
-    Sealing {
-        verdict: Ok(()),
-        next: numbers.next.0 + numbers.size as u64,
-        batch: numbers.batch.0 + 1,
-    }
-}
-
-// "the next position rises by n, the batch number by 1, and n and all placed counts become 0"; a refused seal leaves
-// the numbers as they are.
-pub(crate) fn closed(numbers: Numbers, sealing: Sealing) -> Counted
-    ensures { result ≡ closed_numbers numbers sealing }
-{
-    let verdict = sealing.verdict;
-    match verdict {
-        Ok(()) => {
-            let after = Numbers {
-                records: numbers.records,
-                partitions: numbers.partitions,
-                workers: numbers.workers,
-                next: Position(sealing.next),
-                size: 0,
-                batch: BatchNumber(sealing.batch),
-                placed: [0; 8],
-            };
-            Counted {
-                answer: Answer::Accepted,
-                numbers: after,
-            }
+    for i in 0..numbers.transactions() {
+        if !row_at(rows, i).is_complete() {
+            return true;
         }
-        Err(why) => Counted {
-            answer: Answer::Refused(why.refusal, why.place),
-            numbers,
-        },
     }
+    false
+}
+
+// "The seal checks 1, 14, 9, 15." Where none refuses, "the next position rises by n, the batch number by 1, and n and
+// all placed counts become 0".
+#[tactic(auto, using(crate::specs::LawsPlan::asked), unfolding(crate::specs::Seal::seal_verdict))]
+pub(crate) fn consider_seal(
+    rows: &[Row],
+    crew: &[Worker],
+    numbers: Numbers,
+    records: &[u64],
+    newest: &[u16],
+    versions: &[Version],
+) -> Result<Numbers, Refused>
+    ensures { result ≡ seal_plan (joined numbers rows.now crew.now) records.now newest.now versions.now }
+{
+    let wrong_length = numbers.is_wrong_for_seal(records.len(), newest.len(), versions.len());
+    refuse_if(wrong_length, Refusal::WrongParameter, 0)?;
+    let wrong = range::are_wrong(rows, crew, numbers);
+    refuse_if(numbers.is_out_of_range(wrong), Refusal::StateOutOfRange, 0)?;
+    let unfinished = has_unfinished(rows, numbers);
+    refuse_if((numbers.size == 0) | unfinished, Refusal::WrongMoment, 0)?;
+    let sound = newest_sound(versions, newest, numbers.slots());
+    refuse_if(!sound, Refusal::BrokenTables, 0)?;
+    Ok(Numbers {
+        next: Position(numbers.next.0 + u64::from(numbers.size)),
+        size: 0,
+        batch: BatchNumber(numbers.batch.0 + 1),
+        placed: [0; 8],
+        ..numbers
+    })
 }
 
 // "Each record with a newest version takes its contents. The newest-version and version tables are emptied as at
@@ -119,23 +76,19 @@ pub fn seal(
         ≡ (seal_of (joined numbers rows.now crew.now) records.old newest.old
         versions.old).versions))) }
 {
-    let wrong = range::are_wrong(rows, crew, numbers);
-    let unfinished = has_unfinished(rows, numbers);
-    let slots = moment::slots(numbers);
-    let sound = newest_sound(versions, newest, slots);
-    let sealing = consider_seal(
-        numbers,
-        wrong,
-        unfinished,
-        sound,
-        records.len(),
-        newest.len(),
-        versions.len(),
-    );
-    let on = closes(sealing);
-    collect(versions, newest, records, on);
-    tables::empty_newest(newest, on);
-    let count = tables::count_if(on, versions.len());
-    clear(versions, count);
-    closed(numbers, sealing)
+    match consider_seal(rows, crew, numbers, records, newest, versions) {
+        Ok(after) => {
+            collect(versions, newest, records, true);
+            newest.fill(NO_SLOT);
+            clear(versions, versions.len());
+            Counted {
+                answer: Answer::Accepted,
+                numbers: after,
+            }
+        }
+        Err(why) => Counted {
+            answer: why.into(),
+            numbers,
+        },
+    }
 }

@@ -1,10 +1,10 @@
 use Rattle.counters.specs.Deciding.{worked_of, decide_of}
 use Rattle.counters.proofs.deciding.decide.Goals as goal
 
-pub returns-then-all_actions : goal.returns-then-all_actions
+pub returns-in-Ok : goal.returns-in-Ok
 unfolding decide_of worked_of
-returns-then-all_actions c = rw (c.unreached-carried.ensures, ← c.all_actions.ensures, c.if-all_actions.true)
+returns-in-Ok c = rw (c.unreached.ensures, ← c.of-copy.ensures, ← c.in-Ok.ensures)
 
-pub returns : goal.returns
+pub returns-in-Err : goal.returns-in-Err
 unfolding decide_of worked_of
-returns c = rw (c.unreached-carried-2.ensures, ← c.all_actions.ensures, c.if-all_actions.false)
+returns-in-Err c = rw (c.unreached-in-Err.ensures, ← c.of-copy.ensures, ← c.in-Err.ensures)

@@ -1,23 +1,15 @@
-use Rattle.counters.specs.Working.{place_in}
+use Rattle.std.proofs.Common.{refl, sym, ◌∙◌, rules, tests}
+use Rattle.std.proofs.lemmas.Iterator.{YieldsList-from_range}
+use Rattle.std.proofs.lemmas.Iterator.Search.{find_from_yields_List}
+use Rattle.std.proofs.lemmas.Iterator.Adapters.{option_map_id}
+use Rattle.counters.specs.Working.{stands_at}
+use Rattle.counters.proofs.Laws.Places.{found_place}
 use Rattle.counters.proofs.working.place_in.Goals as goal
 
-pub returns-then-count-set : goal.returns-then-count-set
-unfolding place_in
-returns-then-count-set c = rw c.if-count-set.true
-
-pub returns-then-count-set-2 : goal.returns-then-count-set-2
-unfolding place_in
-returns-then-count-set-2 c = rw (c.if-count-set-2.true, c.if-count-set.false)
-
-pub returns-then-count-set-3 : goal.returns-then-count-set-3
-unfolding place_in
-returns-then-count-set-3 c = rw (c.if-count-set-3.true, c.if-count-set-2.false, c.if-count-set.false)
-
-pub returns-then-count-set-4 : goal.returns-then-count-set-4
-unfolding place_in
-returns-then-count-set-4 c =
-    rw (c.if-count-set-4.true, c.if-count-set-3.false, c.if-count-set-2.false, c.if-count-set.false)
-
 pub returns : goal.returns
-unfolding place_in
-returns c = rw (c.if-count-set-4.false, c.if-count-set-3.false, c.if-count-set-2.false, c.if-count-set.false)
+returns c =
+    sym (option_map_id c.find.result)
+    ∙ find_from_yields_List (stands_at c.args.set.now c.args.count c.args.number) _ _ c.find.result c.find.ensures.ran
+    (YieldsList-from_range 0 4 4 refl refl)
+    (λ x b q k. search (rules, tests))
+    ∙ found_place c.args.set.now c.args.count c.args.number

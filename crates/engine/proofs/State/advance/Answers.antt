@@ -1,14 +1,9 @@
-use Rattle.engine.specs.LawsAdvance.{advance_stepped, advance_versions, advance_results}
+use Rattle.engine.specs.LawsAdvance.{advance_stepped}
 use Rattle.engine.proofs.State.advance.Goals as goal
 
 pub returns : goal.returns
 returns c =
-    let versions = c.args.versions.now in
-    let results = c.args.results.now in
-    let turn = c.turn-turn.ensures in (
-      rw (c.stepped_by.ensures, turn) (advance_stepped _ _ _ _ _ versions results),
-      (
-        rw (c.carry_out.ensures.0, turn) (advance_versions _ _ _ _ _ versions results),
-        rw (c.carry_out.ensures.1, turn) (advance_results _ _ _ _ _ versions results),
-      ),
+    let told = rw c.numbers_of-numbers.ensures at c.advance-answer.ensures in (
+      advance_stepped _ _ _ _ _ _ _ _ _ _ told.0 told.1.0 told.1.1.0,
+      (told.1.1.1.0, told.1.1.1.1),
     )

@@ -1,35 +1,21 @@
-use Rattle.std.proofs.Common.{◌∙◌, ◌≡◌, refl, sym, ap, subst, arith, T, true, Bool, suc}
-use Rattle.versions.specs.LawsFollow.{passes_of}
-use Rattle.versions.specs.Chain.{walk_from}
-use Rattle.versions.specs.Table.{entry_of}
-use Rattle.versions.specs.declared.Version.{Version}
+use Rattle.std.proofs.Common.{◌≡◌, eqb, false, rules, arith, ◌<◌, length, ◌∙◌}
+use Rattle.std.proofs.lemmas.List.{get_or_default}
+use Rattle.terms.specs.Reserved.{no_slot}
+use Rattle.versions.specs.Entry.{empty_entry}
 use Rattle.versions.proofs.Laws.Chain.{pass_on}
 use Rattle.versions.proofs.chain.walk.Goals as goal
 
-holds : (t u : Bool) → t ≡ u → t ≡ true → T u
-holds t u e h = subst T (sym h ∙ e) tt
-
-pub loop-limit-init : goal.loop-limit-init
-loop-limit-init c = record {
-  fits = omega arith;
-  here = c.entry_at-version.ensures;
-  whole = rw c.lesser-limit.ensures refl;
-}
-
-pub loop-limit-preserved : goal.loop-limit-preserved
-loop-limit-preserved c =
+pub loop-slot-preserved : goal.loop-slot-preserved
+loop-slot-preserved c =
     let versions = c.args.versions.now in
-    let at = c.args.at in
-    let limit = c.loop-limit.limit in
-    let slot = c.loop-limit.slot in
-    let here = c.loop-limit.invariant.here in
-    let goes : T (passes_of slot limit (entry_of versions slot) at) =
-    subst (λ (v : Version). T (passes_of slot limit v at)) here (holds _ _ c.passes.ensures c.loop-limit-test.true) in
+    let slot = c.loop-slot.number in
+    let within : slot < length versions = omega arith in
+    let some : eqb slot no_slot ≡ false = search rules in
+    let here = get_or_default versions slot _ empty_entry within in
     record {
       fits = omega arith;
-      here = c.entry_at-version-in-loop-limit.ensures;
+      within = omega arith;
       whole =
-          ap (λ (v : Version). walk_from versions at (suc slot) slot v.previous) here
-          ∙ pass_on versions at limit slot goes
-          ∙ c.loop-limit.invariant.whole;
+          pass_on versions c.args.at c.loop-slot.limit slot _ here some c.if-limit-slot.false c.if-version-at.false
+          ∙ c.loop-slot.invariant.whole;
     }

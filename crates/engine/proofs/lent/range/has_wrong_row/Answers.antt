@@ -1,17 +1,22 @@
-use Rattle.std.proofs.Common.{◌≡◌, ◌+◌, ◌∙◌, refl, ap, suc, arith}
-use Rattle.engine.specs.LawsLent.{unheld_below, rows_told}
+use Rattle.std.proofs.Common.{◌∙◌, rules}
+use Rattle.std.proofs.lemmas.Iterator.{YieldsList-from_slice, YieldsList-from_take}
+use Rattle.std.proofs.lemmas.Iterator.Consumers.{YieldsList-from_enumerate}
+use Rattle.std.proofs.lemmas.Iterator.Search.{any_from_yields_List}
+use Rattle.engine.specs.LawsHeld.{few_of}
+use Rattle.engine.specs.LawsLent.{not_held_by, rows_told}
 use Rattle.engine.proofs.lent.range.has_wrong_row.Goals as goal
-
-pub loop-i-preserved : goal.loop-i-preserved
-loop-i-preserved c =
-    let next : c.loop-i.i + 1 ≡ suc c.loop-i.i = omega arith in
-    (omega arith, rw (next, c.row_wrong-wrong.ensures, c.loop-i.invariant.1, c.row_at-row.ensures) refl)
 
 pub returns : goal.returns
 returns c =
+    let numbers = c.args.numbers in
     let rows = c.args.rows.now in
     let crew = c.args.crew.now in
-    let last : c.loop-i.i ≡ c.lent_transactions-stop.result = omega arith in
-    c.loop-i.invariant.1
-    ∙ ap (unheld_below rows crew) (last ∙ c.lent_transactions-stop.ensures)
-    ∙ rows_told c.args.numbers rows crew
+    any_from_yields_List
+    (λ entry. not_held_by crew entry.0 entry.1.progress)
+    _
+    _
+    c.any.result
+    c.any.ensures.ran
+    (YieldsList-from_take (few_of numbers.size) (YieldsList-from_enumerate (YieldsList-from_slice rows cc) cc) cc)
+    (λ x b q k. search rules)
+    ∙ rows_told numbers rows crew

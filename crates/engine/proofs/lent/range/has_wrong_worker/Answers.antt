@@ -1,18 +1,22 @@
-use Rattle.std.proofs.Common.{◌≡◌, ◌+◌, ◌∙◌, refl, ap, suc, arith}
-use Rattle.engine.specs.LawsLent.{wrong_below, workers_told}
+use Rattle.std.proofs.Common.{◌∙◌, rules}
+use Rattle.std.proofs.lemmas.Iterator.{YieldsList-from_slice, YieldsList-from_take}
+use Rattle.std.proofs.lemmas.Iterator.Consumers.{YieldsList-from_enumerate}
+use Rattle.std.proofs.lemmas.Iterator.Search.{any_from_yields_List}
+use Rattle.engine.specs.LawsHeld.{wrong_among}
+use Rattle.engine.specs.LawsLent.{workers_told}
 use Rattle.engine.proofs.lent.range.has_wrong_worker.Goals as goal
-
-pub loop-w-preserved : goal.loop-w-preserved
-loop-w-preserved c =
-    let next : c.loop-w.w + 1 ≡ suc c.loop-w.w = omega arith in
-    (omega arith, rw (next, c.worker_wrong-wrong.ensures, c.loop-w.invariant.1, c.worker_at-worker.ensures) refl)
 
 pub returns : goal.returns
 returns c =
     let numbers = c.args.numbers in
     let rows = c.args.rows.now in
     let crew = c.args.crew.now in
-    let last : c.loop-w.w ≡ 8 = omega arith in
-    c.loop-w.invariant.1
-    ∙ ap (wrong_below numbers.workers numbers.size rows crew) last
+    any_from_yields_List
+    (λ entry. wrong_among numbers.workers numbers.size rows entry.0 entry.1)
+    _
+    _
+    c.any.result
+    c.any.ensures.ran
+    (YieldsList-from_take 8 (YieldsList-from_enumerate (YieldsList-from_slice crew cc) cc) c.take.ensures.count)
+    (λ x b q k. search rules)
     ∙ workers_told numbers rows crew

@@ -1,10 +1,9 @@
-use Rattle.std.proofs.Common.{◌-◌, ◌≡◌, ◌≤◌}
-use Rattle.engine.specs.LawsLentSeal.{unfinished_below}
+use Rattle.std.proofs.Common.{◌≡◌, false, not}
+use Rattle.engine.specs.Counting.{some_below}
+use Rattle.engine.specs.Lent.{row_of}
+use Rattle.engine.specs.Rows.{is_complete}
 use Rattle.engine.proofs.lent.sealing.has_unfinished.Given as goal
 
--- whether one of the transactions so far is not Complete
+-- all transactions so far are Complete
 abbrev pub invariant-loop-i : goal.invariant-loop-i
-invariant-loop-i l = (l.i ≤ l.stop) × (l.unfinished ≡ unfinished_below l.rows l.i)
-
-abbrev pub decreases-loop-i : goal.decreases-loop-i
-decreases-loop-i l = l.stop - l.i
+invariant-loop-i l = some_below l.i (λ i. not (is_complete (row_of l.rows i))) ≡ false

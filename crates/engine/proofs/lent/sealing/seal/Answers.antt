@@ -1,33 +1,32 @@
 use Rattle.engine.specs.LawsLentSeal.{lent_counted, lent_records, lent_newest, lent_versions}
 use Rattle.engine.proofs.lent.sealing.seal.Goals as goal
 
-pub returns : goal.returns
-returns c =
-    let numbers = c.args.numbers in
-    let rows = c.args.rows.now in
-    let crew = c.args.crew.now in
-    let records = c.args.records.now in
-    let newest = c.args.newest.now in
-    let versions = c.args.versions.now in
-    rw (
-      c.closed.ensures,
-      c.collect.ensures,
-      c.empty_newest.ensures,
-      c.clear.ensures,
-      c.count_if-count.ensures,
-      c.closes-on.ensures,
-      c.consider_seal-sealing.ensures,
-      c.are_wrong-wrong.ensures,
-      c.has_unfinished-unfinished.ensures,
-      c.newest_sound-sound.ensures,
-      c.slots-slots.ensures,
-    ) (
-      lent_counted numbers rows crew records newest versions,
+pub returns-in-Ok : goal.returns-in-Ok
+returns-in-Ok c =
+    let a = c.args in
+    let plan = c.in-Ok.ensures in
+    let counted = lent_counted a.numbers a.rows.now a.crew.now a.records.now a.newest.now a.versions.now in
+    let records = lent_records a.numbers a.rows.now a.crew.now a.records.now a.newest.now a.versions.now in
+    let newest = lent_newest a.numbers a.rows.now a.crew.now a.records.now a.newest.now a.versions.now in
+    let versions = lent_versions a.numbers a.rows.now a.crew.now a.records.now a.newest.now a.versions.now in (
+      rw (← plan) at counted,
       (
-        lent_records numbers rows crew records newest versions,
+        rw c.collect.ensures (rw (← plan) at records),
         (
-          lent_newest numbers rows crew records newest versions,
-          lent_versions numbers rows crew records newest versions,
+          rw (c.fill.ensures.after (λ y same. same)) (rw (← plan) at newest),
+          rw c.clear.ensures (rw (← plan) at versions),
         ),
       ),
+    )
+
+pub returns-in-Err : goal.returns-in-Err
+returns-in-Err c =
+    let a = c.args in
+    let plan = c.in-Err.ensures in
+    let counted = lent_counted a.numbers a.rows.now a.crew.now a.records.now a.newest.now a.versions.now in
+    let records = lent_records a.numbers a.rows.now a.crew.now a.records.now a.newest.now a.versions.now in
+    let newest = lent_newest a.numbers a.rows.now a.crew.now a.records.now a.newest.now a.versions.now in
+    let versions = lent_versions a.numbers a.rows.now a.crew.now a.records.now a.newest.now a.versions.now in (
+      rw c.into.ensures (rw (← plan) at counted),
+      (rw (← plan) at records, (rw (← plan) at newest, rw (← plan) at versions)),
     )

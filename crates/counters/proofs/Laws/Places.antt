@@ -1,0 +1,54 @@
+-- The place of a record as the code finds it, and what its being there or not tells.
+use Rattle.std.proofs.Common.{◌≡◌, refl, ℕ, ◌<◌, ◌≤◌, Bool, true, false, cond, List, [], ◌∷◌, length, ltb, set}
+use Rattle.std.proofs.Common.{arith, ltb-true}
+use Rattle.std.proofs.lemmas.Bool.{ltb-false}
+use Rattle.std.proofs.lemmas.List.{set_past}
+use Rattle.std.specs.Prelude.{Option, Some, None}
+use Rattle.std.specs.List.{find}
+use Rattle.counters.specs.LawsPlaces.{place_found, first_of}
+use Rattle.counters.specs.Working.{stands_at, place_in}
+
+first_found : (a b c d : Bool)
+    → cond a (Some 0) (cond b (Some 1) (cond c (Some 2) (cond d (Some 3) None))) ≡ place_found (first_of a b c d)
+first_found true b c d = refl
+first_found false true c d = refl
+first_found false false true d = refl
+first_found false false false true = refl
+first_found false false false false = refl
+
+pub found_place : (set : List ℕ) (count number : ℕ)
+    → find (stands_at set count number) (0 ∷ 1 ∷ 2 ∷ 3 ∷ []) ≡ place_found (place_in set count number)
+unfolding place_in
+found_place set count number =
+    first_found
+    (stands_at set count number 0)
+    (stands_at set count number 1)
+    (stands_at set count number 2)
+    (stands_at set count number 3)
+
+some_if : (t : Bool) (place number : ℕ) → Some place ≡ cond t (Some number) None
+    → (t ≡ true) × (place ≡ number)
+some_if true place number same = (refl, cc)
+some_if false place number same = absurd cc
+
+-- a place that the code has found is the place, one of the four
+pub at_found : (place number : ℕ) → Some place ≡ place_found number → (place ≡ number) × (place < 4)
+at_found place number same =
+    let both = some_if (ltb number 4) place number same in
+    let below : number < 4 = ltb-true number 4 both.0 in
+    (both.1, omega arith)
+
+none_if : (t : Bool) (number : ℕ) → ◌≡◌ {A = Option ℕ} None (cond t (Some number) None) → t ≡ false
+none_if true number same = absurd cc
+none_if false number same = refl
+
+-- and where it has found none the place is none of the four
+pub none_found : (number : ℕ) → ◌≡◌ {A = Option ℕ} None (place_found number) → 4 ≤ number
+none_found number same = ltb-false number 4 (none_if (ltb number 4) number same)
+
+-- what is stored at none of the four places changes nothing
+pub none_stored : {A : Type 0} (list : List A) (number : ℕ) (value : A) → length list ≡ 4
+    → ◌≡◌ {A = Option ℕ} None (place_found number) → set list number value ≡ list
+none_stored list number value four same =
+    let past = none_found number same in
+    set_past list number value (omega arith)

@@ -1,7 +1,0 @@
-use Rattle.std.proofs.Common.{refl}
-use Rattle.engine.specs.Range.{numbers_wrong}
-use Rattle.engine.proofs.State.has_wrong_number.Goals as goal
-
-pub returns : goal.returns
-unfolding numbers_wrong
-returns c = rw c.is_past_the_end-past.ensures refl
