@@ -7,8 +7,23 @@ ghost use Rattle.std.specs.Prelude.{◌+◌, ◌≤◌};
 use packed::{Action, ActionRow, Transaction};
 use std::io;
 
-fn action(kind: u8, r: u16, s: u16, c: u64) -> Action {
-    match kind {
+// The 16-bit number from `at` on.
+fn word_at(b: &[u8; 71], at: usize) -> u16
+    requires { at + 2 ≤ 71 }
+{
+    little::word([b[at], b[at + 1]])
+}
+
+// The action in the 13 bytes from `at` on.
+fn row(b: &[u8; 71], at: usize) -> ActionRow
+    requires { at + 13 ≤ 71 }
+{
+    let mut constant = [0; 8];
+    constant.copy_from_slice(&b[at + 5..at + 13]);
+    let r = word_at(b, at + 1);
+    let s = word_at(b, at + 3);
+    let c = little::long(constant);
+    let action = match b[at] {
         1 => Action::Set { r, c },
         2 => Action::Add { r, c },
         3 => Action::Take { r, c },
@@ -16,53 +31,30 @@ fn action(kind: u8, r: u16, s: u16, c: u64) -> Action {
         5 => Action::Move { r, s },
         6 => Action::Floor { r, c },
         _ => Action::Nothing,
-    }
-}
-
-// The action in the 13 bytes from `at` on.
-fn row(b: [u8; 71], at: usize) -> ActionRow
-    requires { at + 13 ≤ 71 }
-{
-    let c = little::long([
-        b[at + 5],
-        b[at + 6],
-        b[at + 7],
-        b[at + 8],
-        b[at + 9],
-        b[at + 10],
-        b[at + 11],
-        b[at + 12],
-    ]);
-    let r = little::word([b[at + 1], b[at + 2]]);
-    let s = little::word([b[at + 3], b[at + 4]]);
-    let action = action(b[at], r, s, c);
+    };
     ActionRow { action }
 }
 
 // The four record numbers from `at` on.
-fn set(b: [u8; 71], at: usize) -> [u16; 4]
+fn set(b: &[u8; 71], at: usize) -> [u16; 4]
     requires { at + 8 ≤ 71 }
 {
-    [
-        little::word([b[at], b[at + 1]]),
-        little::word([b[at + 2], b[at + 3]]),
-        little::word([b[at + 4], b[at + 5]]),
-        little::word([b[at + 6], b[at + 7]]),
-    ]
+    let mut records = [0; 4];
+    for (place, record) in records.iter_mut().enumerate() {
+        *record = word_at(b, at + 2 * place);
+    }
+    records
 }
 
 // The meaning in 71 bytes.
 pub fn meaning(b: [u8; 71]) -> Transaction {
-    let reads = set(b, 3);
-    let writes = set(b, 11);
-    let actions = [row(b, 19), row(b, 32), row(b, 45), row(b, 58)];
     Transaction {
         readcount: b[0],
         writecount: b[1],
         actioncount: b[2],
-        reads,
-        writes,
-        actions,
+        reads: set(&b, 3),
+        writes: set(&b, 11),
+        actions: [row(&b, 19), row(&b, 32), row(&b, 45), row(&b, 58)],
     }
 }
 

@@ -16,8 +16,9 @@ use Rattle.versions.specs.declared.Version.{Version}
 use Rattle.engine.specs.Advance.{wrong_for_advance, work_fits}
 use Rattle.engine.specs.Advance.{advance_verdict, advance_of}
 use Rattle.engine.specs.Counting.{some_below}
-use Rattle.engine.specs.LawsAdvance.{aim_at, aim_when, move_when, answered, rows_by, crew_by, versions_by, results_by, decided}
-use Rattle.engine.specs.LawsAdvance.{advance_answer, advance_rows, advance_crew, advance_versions, advance_results}
+use Rattle.engine.specs.LawsAdvance.{aim_at, aim_when, move_when, answered, rows_by, crew_by, versions_by, results_by}
+use Rattle.engine.specs.LawsAdvance.{decided, advance_answer, advance_rows, advance_crew}
+use Rattle.engine.specs.LawsAdvance.{advance_versions, advance_results}
 use Rattle.engine.specs.LawsLent.{out_of_range_by, range_told, position_by, position_within}
 use Rattle.engine.specs.LawsRange.{in_range, holds_below}
 use Rattle.engine.specs.Lent.{worker_of, joined}
@@ -44,7 +45,7 @@ verdict_by out s w worker log records newest versions results =
     (refuse_if (not_of (length log) (88 * s.size)) WrongLength 0 (work_fits s worker log))))))
 
 abbrev pub aim_by : Bool → Numbers → ℕ → Worker → List ℕ → ℕ → ℕ → ℕ → ℕ → Result Aim Refused
-aim_by wrong numbers w worker log newest records versions results =
+aim_by wrong numbers w worker log records newest versions results =
     aim_when
     (verdict_by (out_of_range_by numbers wrong) (joined numbers [] []) w worker log records newest versions results)
     (aim_at (joined numbers [] []) worker log (position_by numbers worker.transaction))
@@ -52,16 +53,8 @@ aim_by wrong numbers w worker log newest records versions results =
 unfoldable pub turn_with : Bool → Numbers → ℕ → Worker → List ℕ → List ℕ → List ℕ → List Version → ℕ
     → Result Move Refused
 turn_with wrong numbers w worker log records newest versions results =
-    move_when (aim_by wrong numbers w worker log (length newest) (length records) (length versions) results) records
+    move_when (aim_by wrong numbers w worker log (length records) (length newest) (length versions) results) records
     newest versions
-
-pub turn_with_lem : (wrong : Bool) (numbers : Numbers) (w : ℕ) (worker : Worker) (log records newest : List ℕ)
-    (versions : List Version) (results : ℕ)
-    → move_when (aim_by wrong numbers w worker log (length newest) (length records) (length versions) results) records
-    newest versions
-    ≡ turn_with wrong numbers w worker log records newest versions results
-unfolding turn_with
-turn_with_lem wrong numbers w worker log records newest versions results = refl
 
 -- ---- that is the definition
 module _ (numbers : Numbers) (rows : List Row) (crew : List Worker) (w : ℕ) (log records newest : List ℕ)

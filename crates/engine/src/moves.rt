@@ -135,6 +135,8 @@ pub(crate) fn decides(worker: Worker, writecount: u8, decision: Decision) -> Mov
     }
 }
 
+// Two cases as in `reads`: a closure for the third would need a relation in the contract, where this has the
+// definition.
 pub(crate) fn carries(worker: Worker, j: u8, seen: Seen) -> Result<Move, Refused>
     ensures { result ≡ carries worker j seen }
 {

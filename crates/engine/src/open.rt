@@ -29,13 +29,6 @@ fn each_in_turn(log: &[u8], n: usize, count: usize) -> Verdict
 }
 
 impl State {
-    // "n (0 when no batch is open)"
-    fn is_open(&self) -> bool
-        ensures { result ≡ not (no_batch self.now) }
-    {
-        self.size != 0
-    }
-
     // "Opening checks 1, 14, 9, 2, 3, then each transaction in turn 4 to 8." Where none refuses, the number of
     // transactions.
     #[tactic(auto, using(crate::specs::LawsLent::range_told), unfolding(crate::specs::Open::open_verdict))]
@@ -53,7 +46,7 @@ impl State {
         refuse_if(wrong_length, Refusal::WrongParameter, 0)?;
         let wrong = range::are_wrong(&self.rows, &self.crew, numbers);
         refuse_if(numbers.is_out_of_range(wrong), Refusal::StateOutOfRange, 0)?;
-        refuse_if(self.is_open(), Refusal::WrongMoment, 0)?;
+        refuse_if(self.size != 0, Refusal::WrongMoment, 0)?;
         refuse_if(is_wrong_batch_length(log.len()), Refusal::WrongLength, 0)?;
         let count = log.len() / 88;
         refuse_if(numbers.runs_out(count), Refusal::PositionsRunOut, 0)?;

@@ -1,20 +1,14 @@
 -- Laws of numbers of several bytes, each over the width.
 use Rattle.std.specs.Prelude.{◌≡◌, refl, List, [], ◌∷◌, map, ℕ, zero, suc, ◌+◌}
-use Rattle.std.specs.Prelude.{◌*◌, ◌-◌, ◌/◌, ◌%◌, ◌^◌, ◌<◌, ◌≤◌, length, get_or, drop}
-use Rattle.std.proofs.Common.{ap, ◌∙◌, pow-suc, arith, length-drop, drop-cons, get_or-drop}
-use Rattle.std.proofs.Math.Nat.{pow-le-pow_right}
-use Rattle.std.proofs.Math.Seq.{drop-length}
+use Rattle.std.specs.Prelude.{◌*◌, ◌/◌, ◌%◌, ◌^◌, ◌<◌, ◌≤◌, length, get_or, drop}
+use Rattle.std.specs.Int.{sum_through, byte_worth, bytes_low_first}
+use Rattle.std.proofs.Common.{pow-suc, arith, drop-cons, drop_of_length-le}
+use Rattle.std.proofs.Math.Nat.{div-div-eq-div-mul}
 use Rattle.little.specs.Little.{number_in, bytes_of}
 
 -- every number of the list is a byte
 abbrev pub Bytes : List ℕ → Type 0
 Bytes bytes = (i : ℕ) → get_or bytes i 0 < 256
-
-pub number_below : (bytes : List ℕ) → Bytes bytes → number_in bytes < 256 ^ length bytes
-unfolding number_in
-number_below [] small = omega arith
-number_below (byte ∷ bytes) small =
-    rw (pow-suc 256 (length bytes)) (omega (arith, number_below bytes (λ i. small (suc i)), small 0))
 
 -- what was written is read, where it fits
 pub number_of_bytes : (width number : ℕ) → number < 256 ^ width → number_in (bytes_of width number) ≡ number
@@ -33,37 +27,42 @@ bytes_of_number (byte ∷ bytes) small =
     let rest : (byte + 256 * number_in bytes) / 256 ≡ number_in bytes = omega (arith, small 0) in
     rw (first, rest, bytes_of_number bytes (λ i. small (suc i)))
 
--- A loop that reads from the last byte to the first, `left` bytes before its end. Before it no byte is read:
-pub none_read : (bytes : List ℕ) → 0 ≡ number_in (drop (length bytes) bytes)
+-- std's numbers of several bytes are these: what its sum over the first bytes leaves out is in the bytes after them
+read_through : (bytes : List ℕ) (k : ℕ) → k < length bytes
+    → sum_through (λ i. byte_worth i (get_or bytes i 0)) k + 256 ^ suc k * number_in (drop (suc k) bytes)
+    ≡ number_in bytes
 unfolding number_in
-none_read bytes = rw drop-length
+read_through [] k within = absurd (omega arith)
+read_through (byte ∷ bytes) zero within = omega arith
+read_through (byte ∷ bytes) (suc k) within =
+    let before = read_through (byte ∷ bytes) k (omega arith) in
+    let next = drop-cons bytes k 0 (omega arith) in
+    let told = rw next at before in
+    rw (pow-suc 256 (suc k)) (omega (arith, told))
 
--- what is read has room for one byte more in 64 bits;
-pub room : {value : ℕ} (bytes : List ℕ) (left : ℕ) → Bytes bytes → length bytes ≤ 8 → 0 < left → left ≤ length bytes
-    → value ≡ number_in (drop left bytes) → value * 256 + 255 < 2 ^ 64
-room bytes left small short some within read =
-    let tail : Bytes (drop left bytes) = λ i. rw get_or-drop (small (left + i)) in
-    let few : length (drop left bytes) ≤ 7 = simp length-drop (omega arith) in
-    let most : 256 ^ length (drop left bytes) ≤ 256 ^ 7 = pow-le-pow_right (omega arith) few in
-    omega (arith, most, number_below (drop left bytes) tail)
-
--- a turn reads it;
-pub one_read : {value byte : ℕ} (bytes : List ℕ) (left : ℕ) → 0 < left → left ≤ length bytes
-    → value ≡ number_in (drop left bytes) → byte ≡ get_or bytes (left - 1) 0
-    → value * 256 + byte ≡ number_in (drop (left - 1) bytes)
+pub read_whole : (bytes : List ℕ) (k : ℕ) → length bytes ≡ suc k
+    → sum_through (λ i. byte_worth i (get_or bytes i 0)) k ≡ number_in bytes
 unfolding number_in
-one_read bytes left some within read byte_read =
-    let at : left - 1 < length bytes = omega arith in
-    let next : suc (left - 1) ≡ left = omega arith in
-    let same = ap (λ n. number_in (drop n bytes)) next in
-    omega (arith, ap number_in (drop-cons bytes (left - 1) 0 at), same)
+read_whole bytes k whole =
+    let short : length bytes ≤ suc k = omega arith in
+    let none : drop (suc k) bytes ≡ [] = drop_of_length-le bytes short in
+    let read = rw none at (read_through bytes k (omega arith)) in
+    omega (arith, read)
 
--- after the loop all are read.
-pub all_read : {value : ℕ} (bytes : List ℕ) (left : ℕ) → value ≡ number_in (drop left bytes) → left ≤ 0
-    → value ≡ number_in bytes
-all_read bytes left read none_left =
-    let zero_left : left ≡ 0 = omega arith in
-    read ∙ rw zero_left
+-- and its bytes of a number, `i` bytes on
+written_from : (i width number : ℕ) → bytes_low_first i width number ≡ bytes_of width (number / 256 ^ i)
+unfolding bytes_of
+written_from i zero number = refl
+written_from zero (suc width) number =
+    let first : number / 256 ^ 0 ≡ number = omega arith in
+    rw (written_from 1 width number, first)
+written_from (suc i) (suc width) number =
+    rw (written_from (suc (suc i)) width number, div-div-eq-div-mul, pow-suc 256 (suc i))
+
+pub written : (number width : ℕ) → bytes_low_first 0 width number ≡ bytes_of width number
+written number width =
+    let first : number / 256 ^ 0 ≡ number = omega arith in
+    rw (written_from 0 width number, first)
 
 -- bytes picked from bytes
 pub picked : (bytes : List ℕ) → Bytes bytes → (places : List ℕ) → Bytes (map (λ at. get_or bytes at 0) places)

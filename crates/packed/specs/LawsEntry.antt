@@ -1,11 +1,12 @@
 -- The verdict of an entry in the code's order: 4, then 5 and 6 in the sets, then what is undeclared, and 5 in the
 -- actions only where something is.
-use Rattle.std.specs.Prelude.{ℕ, Bool, true, ◌||◌, not, ◌≡◌, refl, List, Ok}
+use Rattle.std.specs.Prelude.{ℕ, Bool, true, ◌≡◌, refl, List, Ok, Some, None}
 use Rattle.std.proofs.Math.Bool.{false}
 use Rattle.std.proofs.Common.{◌∙◌}
-use Rattle.std.proofs.lemmas.Bool.{not-true}
 use Rattle.terms.specs.Refusals.{refused}
+use Rattle.terms.specs.declared.refusal.Refusal.{Refusal}
 use Rattle.terms.specs.declared.refusal.Refusal.TheVariants.{
+  Malformed,
   NoSuchRecord,
   NotAscending,
   UndeclaredRead,
@@ -13,21 +14,21 @@ use Rattle.terms.specs.declared.refusal.Refusal.TheVariants.{
 }
 use Rattle.packed.specs.Checks.{entry_verdict}
 use Rattle.packed.specs.Form.{malformed}
-use Rattle.packed.specs.LawsForm.{not_left, not_right}
+use Rattle.packed.specs.LawsMeaning.{first_undeclared}
 use Rattle.packed.specs.LawsListed.{declared_below}
-use Rattle.packed.specs.LawsRecords.{not_both}
 use Rattle.packed.specs.LawsSets.{sets_proper, in_sets, descends_somewhere, by_actions}
 use Rattle.packed.specs.Records.{some_action, uses_too_large, no_such_record, undeclared_read, undeclared_write}
 
-pub none_undeclared : (read write : Bool) → not (read || write) ≡ true → (read ≡ false) × (write ≡ false)
-none_undeclared read write none =
-    let neither = not-true (read || write) none in
-    (not_left read write neither, not_right read write neither)
+pub none_undeclared : (read written : Bool) → None ≡ first_undeclared read written
+    → (read ≡ false) × (written ≡ false)
+none_undeclared true written none = cc
+none_undeclared false true none = cc
+none_undeclared false false none = (refl, refl)
 
-pub only_written : (read write : Bool) → not (read || write) ≡ false → read ≡ false → write ≡ true
-only_written true write some none = not_both none
-only_written false true some none = refl
-only_written false false some none = not_both some
+pub malformed_lem : (n transaction : ℕ) (b : List ℕ) → malformed b ≡ true
+    → refused Malformed transaction ≡ entry_verdict n transaction b
+unfolding entry_verdict
+malformed_lem n transaction b told = rw told
 
 module _ (n transaction : ℕ) (b : List ℕ) (formed : malformed b ≡ false) where
   pub no_such_record_lem : no_such_record n b ≡ true → refused NoSuchRecord transaction ≡ entry_verdict n transaction b
@@ -66,3 +67,19 @@ module _ (n transaction : ℕ) (b : List ℕ) (formed : malformed b ≡ false) w
         let sets = in_sets n b proper in
         let exist : no_such_record n b ≡ false = by_actions n b sets ∙ small in
         rw (formed, exist, sets.ascend, read, written)
+
+    pub undeclared_lem : (refusal : Refusal) → some_action (uses_too_large n) b ≡ false
+        → Some refusal ≡ first_undeclared (undeclared_read b) (undeclared_write b)
+        → refused refusal transaction ≡ entry_verdict n transaction b
+    undeclared_lem refusal small told = go (undeclared_read b) (undeclared_write b) refl refl told
+      where
+        go : (read written : Bool) → undeclared_read b ≡ read → undeclared_write b ≡ written
+            → Some refusal ≡ first_undeclared read written
+            → refused refusal transaction ≡ entry_verdict n transaction b
+        go true written reads writes told =
+            let same : refusal ≡ UndeclaredRead = cc in
+            rw same (undeclared_read_lem small reads)
+        go false true reads writes told =
+            let same : refusal ≡ UndeclaredWrite = cc in
+            rw same (undeclared_write_lem small reads writes)
+        go false false reads writes told = cc

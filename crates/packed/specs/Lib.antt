@@ -12,6 +12,7 @@ pub mod LawsEntry
 pub mod LawsForm
 pub mod LawsKinds
 pub mod LawsListed
+pub mod LawsMeaning
 pub mod LawsPast
 pub mod LawsRecords
 pub mod LawsRoundTrip

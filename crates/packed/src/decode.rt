@@ -1,16 +1,17 @@
 // What the bytes of an entry mean, proper or not.
 ghost use Rattle.std.specs.Prelude.{◌≡◌, ◌+◌, ◌≤◌, length};
+ghost use Rattle.packed.specs.Fields.{fields_at};
 ghost use Rattle.packed.specs.Decode.{action_of, row_at, decode, nothing};
 
-use crate::{Action, ActionRow, Transaction, fields};
+use crate::{Action, ActionRow, Entry, Transaction, fields};
 use fields::Fields;
 
-// The action of these fields; a kind outside 1 to 6 is none.
+// The action of these fields; a kind outside 1 to 6 is none. Here and in `encode` a kind is its number in the bytes: an
+// enum of kinds would be a second list of the cases of `Action`.
 fn action_of(x: Fields) -> Action
     ensures { result ≡ action_of x }
 {
-    let kind = x.kind;
-    match kind {
+    match x.kind {
         1 => Action::Set { r: x.r, c: x.c },
         2 => Action::Add { r: x.r, c: x.c },
         3 => Action::Take { r: x.r, c: x.c },
@@ -21,16 +22,24 @@ fn action_of(x: Fields) -> Action
     }
 }
 
+// The action in the 16 bytes from `at` on.
+pub(crate) fn action_at(b: &[u8], at: usize) -> Action
+    requires { at + 16 ≤ length b.now }
+    ensures { result ≡ action_of (fields_at b.now at) }
+{
+    action_of(fields::fields_at(b, at))
+}
+
 fn row_at(b: &[u8], at: usize) -> ActionRow
     requires { at + 16 ≤ length b.now }
     ensures { result ≡ row_at b.now at }
 {
-    let action = action_of(fields::fields_at(b, at));
-    ActionRow { action }
+    ActionRow {
+        action: action_at(b, at),
+    }
 }
 
-pub(crate) fn decoded(b: &[u8]) -> Transaction
-    requires { length b.now ≡ 88 }
+pub(crate) fn decoded(b: &Entry) -> Transaction
     ensures { result ≡ decode b.now }
 {
     let reads = fields::set_at(b, 4);

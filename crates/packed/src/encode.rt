@@ -10,8 +10,7 @@ use fields::Fields;
 fn fields_of(row: ActionRow) -> Fields
     ensures { result ≡ fields_of row.action }
 {
-    let action = row.action;
-    match action {
+    match row.action {
         Action::Nothing => fields_with(0, 0, 0, 0),
         Action::Set { r, c } => fields_with(1, r, 0, c),
         Action::Add { r, c } => fields_with(2, r, 0, c),
@@ -56,10 +55,8 @@ fn paste(b: &mut [u8], at: usize, part: &[u8])
     requires { at + length part.now ≤ length b.old }
     ensures { b.new ≡ pasted at part.now b.old }
 {
-    let mut k: usize = 0;
-    while k < part.len() {
-        b[at + k] = part[k];
-        k += 1;
+    for (k, &byte) in part.iter().enumerate() {
+        b[at + k] = byte;
     }
 }
 
@@ -81,15 +78,12 @@ pub(crate) fn encoded(t: Transaction) -> [u8; 88]
     ensures { result ≡ encode t }
 {
     let mut b = [0u8; 88];
-    let reads = t.reads;
-    let writes = t.writes;
-    let actions = t.actions;
     paste(&mut b, 0, &[t.readcount, t.writecount, t.actioncount]);
-    paste_set(&mut b, 4, reads);
-    paste_set(&mut b, 12, writes);
-    paste_action(&mut b, 24, actions[0]);
-    paste_action(&mut b, 40, actions[1]);
-    paste_action(&mut b, 56, actions[2]);
-    paste_action(&mut b, 72, actions[3]);
+    paste_set(&mut b, 4, t.reads);
+    paste_set(&mut b, 12, t.writes);
+    paste_action(&mut b, 24, t.actions[0]);
+    paste_action(&mut b, 40, t.actions[1]);
+    paste_action(&mut b, 56, t.actions[2]);
+    paste_action(&mut b, 72, t.actions[3]);
     b
 }

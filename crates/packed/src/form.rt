@@ -1,15 +1,16 @@
 // Refusal 4: "a count above 4, a kind outside 1–6 within the count, or a byte that must be zero is not". Eight bytes
-// are looked at as one number: the bytes from some place on are zero where the number is below a power of 256.
+// are looked at as one number, in which a kind is a number too: the bytes from some place on are zero where the number
+// is below a power of 256. Looked at one by one they took over 1.3 times as many instructions as C does
+// (docs/PERFORMANCE.md, "Unpacking one entry").
 ghost use Rattle.std.specs.Prelude.{◌≡◌, ◌+◌, ◌≤◌, length};
 ghost use Rattle.packed.specs.Fields.{set_at};
 ghost use Rattle.packed.specs.Form.{count_above, past_set, malformed};
 ghost use Rattle.packed.specs.LawsActions.{within_malformed, action_malformed, actions_malformed};
 ghost use Rattle.packed.specs.LawsPast.{rest_nonzero};
 
-use crate::fields;
+use crate::{Entry, fields};
 
-fn count_above(b: &[u8]) -> bool
-    requires { length b.now ≡ 88 }
+fn count_above(b: &Entry) -> bool
     ensures { result ≡ count_above b.now }
 {
     (4 < b[0]) | (4 < b[1]) | (4 < b[2])
@@ -31,8 +32,7 @@ fn past_set(b: &[u8], at: usize, count: u8) -> bool
 }
 
 // One of the bytes 20 to 23 is not zero.
-fn rest_nonzero(b: &[u8]) -> bool
-    requires { length b.now ≡ 88 }
+fn rest_nonzero(b: &Entry) -> bool
     ensures { result ≡ rest_nonzero b.now }
 {
     4294967296 <= fields::long_at(b, 16)
@@ -40,17 +40,14 @@ fn rest_nonzero(b: &[u8]) -> bool
 
 // An action within the count; `head` is the number in its first eight bytes, which are "kind (1), zero (1),
 // record r (2), record s (2), zero (2)".
+#[tactic(auto, unfolding(crate::specs::LawsActions::within_malformed))]
 fn within_malformed(head: u64, c: u64) -> bool
     ensures { result ≡ within_malformed head c }
 {
     let kind = head % 65536;
     match kind {
-        1 => 4294967296 <= head,
-        2 => 4294967296 <= head,
-        3 => 4294967296 <= head,
-        4 => (281474976710656 <= head) | (c != 0),
-        5 => (281474976710656 <= head) | (c != 0),
-        6 => 4294967296 <= head,
+        1 | 2 | 3 | 6 => 4294967296 <= head,
+        4 | 5 => (281474976710656 <= head) | (c != 0),
         _ => true,
     }
 }
@@ -69,38 +66,24 @@ fn action_malformed(b: &[u8], at: usize, within: bool) -> bool
     }
 }
 
-fn actions_malformed(b: &[u8]) -> bool
-    requires { length b.now ≡ 88 }
+fn actions_malformed(b: &Entry) -> bool
     ensures { result ≡ actions_malformed b.now }
 {
     let count = b[2];
-    if action_malformed(b, 24, 0 < count) {
-        return true;
-    }
-    if action_malformed(b, 40, 1 < count) {
-        return true;
-    }
-    if action_malformed(b, 56, 2 < count) {
-        return true;
-    }
-    action_malformed(b, 72, 3 < count)
+    action_malformed(b, 24, 0 < count)
+        || action_malformed(b, 40, 1 < count)
+        || action_malformed(b, 56, 2 < count)
+        || action_malformed(b, 72, 3 < count)
 }
 
-pub(crate) fn is_malformed(b: &[u8]) -> bool
-    requires { length b.now ≡ 88 }
+#[tactic(auto, using(crate::specs::LawsActions::malformed_parts))]
+pub(crate) fn is_malformed(b: &Entry) -> bool
     ensures { result ≡ malformed b.now }
 {
-    if count_above(b) {
-        return true;
-    }
-    if (b[3] != 0) | rest_nonzero(b) {
-        return true;
-    }
-    if past_set(b, 4, b[0]) {
-        return true;
-    }
-    if past_set(b, 12, b[1]) {
-        return true;
-    }
-    actions_malformed(b)
+    count_above(b)
+        || b[3] != 0
+        || rest_nonzero(b)
+        || past_set(b, 4, b[0])
+        || past_set(b, 12, b[1])
+        || actions_malformed(b)
 }

@@ -14,8 +14,11 @@ pub use packing::pack;
 use terms::Verdict;
 pub use unpacking::{unpack, unpack_at};
 
+// The bytes of a packed transaction.
+pub(crate) type Entry = [u8; 88];
+
 // An action, a case for each kind of the table, with the fields that the kind has: records r and s, constant c.
-#[derive(Clone, Copy)]
+#[derive(Clone, Copy, Debug, PartialEq, Eq)]
 pub enum Action {
     Nothing,
     Set { r: u16, c: u64 },
@@ -27,13 +30,13 @@ pub enum Action {
 }
 
 // One of the four places for an action in a transaction.
-#[derive(Clone, Copy)]
+#[derive(Clone, Copy, Debug, PartialEq, Eq)]
 pub struct ActionRow {
     pub action: Action,
 }
 
 // What an entry means. Entries of the sets and of the actions past their counts are zero, or `Nothing`.
-#[derive(Clone, Copy)]
+#[derive(Clone, Copy, Debug, PartialEq, Eq)]
 pub struct Transaction {
     pub readcount: u8,
     pub writecount: u8,
@@ -43,8 +46,9 @@ pub struct Transaction {
     pub actions: [ActionRow; 4],
 }
 
-// The answer of unpacking; refused, the meaning is the all-zero one.
-#[derive(Clone, Copy)]
+// The answer of unpacking. The meaning stands beside the verdict, and not in it: "A refused .. unpacking hands back the
+// all-zero .. meaning".
+#[derive(Clone, Copy, Debug, PartialEq, Eq)]
 pub struct Unpacked {
     pub verdict: Verdict,
     pub meaning: Transaction,

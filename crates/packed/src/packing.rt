@@ -3,25 +3,20 @@ ghost use Rattle.std.specs.Prelude.{◌≡◌};
 ghost use Rattle.packed.specs.Packing.{packed, pack_of};
 
 use crate::{Transaction, encode, unpacking};
-use terms::{Refusal, Verdict};
+use terms::{Refusal, Verdict, refuse_if};
 
 // Writes the bytes of a meaning for a store of n records into a lent buffer; refused, it writes nothing.
 pub fn pack(meaning: Transaction, n: usize, buffer: &mut [u8]) -> Verdict
     ensures { packed result buffer.new ≡ pack_of n meaning buffer.old }
 {
-    if unpacking::is_wrong_record_count(n) {
-        return Err(Refusal::WrongParameter.at(0));
-    }
-    if buffer.len() != 88 {
-        return Err(Refusal::WrongLength.at(0));
-    }
+    refuse_if(
+        unpacking::is_wrong_record_count(n),
+        Refusal::WrongParameter,
+        0,
+    )?;
+    refuse_if(buffer.len() != 88, Refusal::WrongLength, 0)?;
     let b = encode::encoded(meaning);
-    let verdict = unpacking::entry_verdict(&b, n, 0);
-    match verdict {
-        Ok(()) => {
-            buffer.copy_from_slice(&b);
-            verdict
-        }
-        Err(_) => verdict,
-    }
+    unpacking::entry(&b, n, 0)?;
+    buffer.copy_from_slice(&b);
+    Ok(())
 }

@@ -1,176 +1,171 @@
 // Refusals 5 to 8: the records of an entry that is not malformed. An action is judged by the table of kinds.
-ghost use Rattle.std.specs.Prelude.{◌≡◌, false, ◌≤◌, length};
+ghost use Rattle.std.specs.Prelude.{◌≡◌, ◌≤◌, take, eqb};
+ghost use Rattle.std.specs.List.{list_any, position};
+ghost use Rattle.packed.specs.Encode.{fields_of};
 ghost use Rattle.packed.specs.Fields.{byte_at};
-ghost use Rattle.packed.specs.Records.{some_action, too_large, set_too_large, uses_too_large, no_such_record};
+ghost use Rattle.packed.specs.LawsMeaning.{first_undeclared, ascends_from};
 ghost use Rattle.packed.specs.LawsSets.{set_proper, sets_proper};
+ghost use Rattle.packed.specs.Records.{some_action, too_large, set_too_large, uses_too_large, no_such_record};
 ghost use Rattle.packed.specs.Records.{unlisted, reads_unlisted, undeclared_read, writes_unlisted, undeclared_write};
 
-use crate::fields;
-use fields::Fields;
+use crate::{Action, Entry, decode, fields};
+use terms::Refusal;
 
-// An undeclared record is read; where none is, one is written.
-#[derive(Clone, Copy)]
-pub(crate) struct Undeclared {
-    pub read: bool,
-    pub write: bool,
-}
-
-fn size(count: u8) -> usize
-    ensures { result ≡ count }
+// Of four places those within the count.
+fn within<T>(places: &[T; 4], count: u8) -> &[T]
+    ensures { result.now ≡ take count places.now }
 {
-    count as usize
+    &places[..usize::from(count).min(4)]
 }
 
 // "is N or more"
 fn too_large(number: u16, n: usize) -> bool
     ensures { result ≡ too_large n number }
 {
-    n <= number as usize
+    n <= usize::from(number)
 }
 
-fn set_too_large(set: [u16; 4], count: u8, n: usize) -> bool
-    ensures { result ≡ set_too_large n set count }
+fn some_too_large(records: &[u16], n: usize) -> bool
+    ensures { result ≡ list_any (too_large n) records.now }
 {
-    ((0 < count) & too_large(set[0], n))
-        | ((1 < count) & too_large(set[1], n))
-        | ((2 < count) & too_large(set[2], n))
-        | ((3 < count) & too_large(set[3], n))
+    records.iter().any(|&number| too_large(number, n))
 }
 
-fn uses_too_large(x: Fields, n: usize) -> bool
-    ensures { result ≡ uses_too_large n x }
+#[tactic(auto, using(crate::specs::LawsMeaning::any_within))]
+fn set_too_large(set: &[u16; 4], count: u8, n: usize) -> bool
+    ensures { result ≡ set_too_large n set.now count }
 {
-    let kind = x.kind;
-    match kind {
-        1 => too_large(x.r, n),
-        2 => too_large(x.r, n),
-        3 => too_large(x.r, n),
-        4 => too_large(x.s, n) | too_large(x.r, n),
-        5 => too_large(x.s, n) | too_large(x.r, n),
-        6 => too_large(x.r, n),
-        _ => false,
+    some_too_large(within(set, count), n)
+}
+
+#[tactic(auto, using(crate::specs::LawsRecords::or_same), unfolding(crate::specs::Kinds::uses_of))]
+fn uses_too_large(action: Action, n: usize) -> bool
+    ensures { result ≡ uses_too_large n (fields_of action) }
+{
+    match action {
+        Action::Nothing => false,
+        Action::Set { r, .. }
+        | Action::Add { r, .. }
+        | Action::Take { r, .. }
+        | Action::Floor { r, .. } => too_large(r, n),
+        Action::Copy { r, s } | Action::Move { r, s } => too_large(s, n) | too_large(r, n),
     }
 }
 
 // An action within the count uses a record that is N or more.
-pub(crate) fn action_too_large(b: &[u8], n: usize) -> bool
-    requires { (length b.now ≡ 88) × (byte_at b.now 2 ≤ 4) }
+pub(crate) fn action_too_large(b: &Entry, n: usize) -> bool
+    requires { byte_at b.now 2 ≤ 4 }
     ensures { result ≡ some_action (uses_too_large n) b.now }
 {
-    let count = size(b[2]);
-    let mut k: usize = 0;
-    while k < count {
-        if uses_too_large(fields::fields_at(b, 24 + 16 * k), n) {
+    for k in 0..usize::from(b[2]) {
+        if uses_too_large(decode::action_at(b, 24 + 16 * k), n) {
             return true;
         }
-        k += 1;
     }
     false
 }
 
 // Refusal 5.
-pub(crate) fn has_no_such_record(b: &[u8], n: usize) -> bool
-    requires { (length b.now ≡ 88) × (byte_at b.now 2 ≤ 4) }
+#[tactic(auto, unfolding(crate::specs::Records::no_such_record))]
+pub(crate) fn has_no_such_record(b: &Entry, n: usize) -> bool
+    requires { byte_at b.now 2 ≤ 4 }
     ensures { result ≡ no_such_record n b.now }
 {
-    if set_too_large(fields::set_at(b, 4), b[0], n) {
-        return true;
-    }
-    if set_too_large(fields::set_at(b, 12), b[1], n) {
-        return true;
-    }
-    action_too_large(b, n)
+    let reads = fields::set_at(b, 4);
+    let writes = fields::set_at(b, 12);
+    set_too_large(&reads, b[0], n) || set_too_large(&writes, b[1], n) || action_too_large(b, n)
 }
 
-// The set ascends strictly to a last record below n, so that neither 5 nor 6 is met in it.
-fn set_proper(set: [u16; 4], count: u8, n: usize) -> bool
-    ensures { result ≡ set_proper n set count }
+// The records ascend strictly to a last one below n.
+fn ascends_below(records: &[u16], n: usize) -> bool
+    ensures { result ≡ ascends_from 0 records.now n }
 {
-    match count {
-        0 => true,
-        1 => !too_large(set[0], n),
-        2 => (set[0] < set[1]) & !too_large(set[1], n),
-        3 => (set[0] < set[1]) & (set[1] < set[2]) & !too_large(set[2], n),
-        _ => (set[0] < set[1]) & (set[1] < set[2]) & (set[2] < set[3]) & !too_large(set[3], n),
+    let mut least = 0;
+    for &number in records {
+        if usize::from(number) < least {
+            return false;
+        }
+        least = usize::from(number) + 1;
     }
+    least <= n
 }
 
-// Neither 5 nor 6 is met in the sets.
-pub(crate) fn sets_proper(b: &[u8], n: usize) -> bool
-    requires { length b.now ≡ 88 }
+// Neither 5 nor 6 is met in the set.
+fn set_proper(set: &[u16; 4], count: u8, n: usize) -> bool
+    ensures { result ≡ set_proper n set.now count }
+{
+    ascends_below(within(set, count), n)
+}
+
+// Nor in both.
+pub(crate) fn sets_proper(b: &Entry, n: usize) -> bool
     ensures { result ≡ sets_proper n b.now }
 {
-    if set_proper(fields::set_at(b, 4), b[0], n) {
-        set_proper(fields::set_at(b, 12), b[1], n)
-    } else {
-        false
+    let reads = fields::set_at(b, 4);
+    let writes = fields::set_at(b, 12);
+    set_proper(&reads, b[0], n) && set_proper(&writes, b[1], n)
+}
+
+fn place_in(set: &[u16; 4], number: u16) -> Option<usize>
+    ensures { result ≡ position (λ listed. eqb listed number) set.now }
+{
+    set.iter().position(|&listed| listed == number)
+}
+
+// The record is not declared: its first place in the set is not within the count, or there is none.
+fn is_unlisted(set: &[u16; 4], count: u8, number: u16) -> bool
+    ensures { result ≡ unlisted set.now count number }
+{
+    match place_in(set, number) {
+        Some(place) => usize::from(count) <= place,
+        None => true,
     }
 }
 
-// The record is not among the first `count` of a set; the first entry that is the record tells.
-fn is_unlisted(set: [u16; 4], count: u8, number: u16) -> bool
-    ensures { result ≡ unlisted set count number }
+#[tactic(auto, unfolding(crate::specs::Kinds::uses_of))]
+fn reads_unlisted(action: Action, set: &[u16; 4], count: u8) -> bool
+    ensures { result ≡ reads_unlisted set.now count (fields_of action) }
 {
-    if set[0] == number {
-        return count <= 0;
-    }
-    if set[1] == number {
-        return count <= 1;
-    }
-    if set[2] == number {
-        return count <= 2;
-    }
-    (set[3] != number) | (count <= 3)
-}
-
-fn reads_unlisted(x: Fields, set: [u16; 4], count: u8) -> bool
-    ensures { result ≡ reads_unlisted set count x }
-{
-    let kind = x.kind;
-    match kind {
-        1 => false,
-        2 => is_unlisted(set, count, x.r),
-        3 => is_unlisted(set, count, x.r),
-        4 => is_unlisted(set, count, x.s),
-        5 => is_unlisted(set, count, x.s) | is_unlisted(set, count, x.r),
-        6 => is_unlisted(set, count, x.r),
-        _ => false,
+    match action {
+        Action::Nothing | Action::Set { .. } => false,
+        Action::Add { r, .. } | Action::Take { r, .. } | Action::Floor { r, .. } => {
+            is_unlisted(set, count, r)
+        }
+        Action::Copy { s, .. } => is_unlisted(set, count, s),
+        Action::Move { r, s } => is_unlisted(set, count, s) | is_unlisted(set, count, r),
     }
 }
 
-fn writes_unlisted(x: Fields, set: [u16; 4], count: u8) -> bool
-    ensures { result ≡ writes_unlisted set count x }
+#[tactic(auto, unfolding(crate::specs::Kinds::uses_of))]
+fn writes_unlisted(action: Action, set: &[u16; 4], count: u8) -> bool
+    ensures { result ≡ writes_unlisted set.now count (fields_of action) }
 {
-    let kind = x.kind;
-    match kind {
-        1 => is_unlisted(set, count, x.r),
-        2 => is_unlisted(set, count, x.r),
-        3 => is_unlisted(set, count, x.r),
-        4 => is_unlisted(set, count, x.r),
-        5 => is_unlisted(set, count, x.s) | is_unlisted(set, count, x.r),
-        6 => false,
-        _ => false,
+    match action {
+        Action::Nothing | Action::Floor { .. } => false,
+        Action::Set { r, .. }
+        | Action::Add { r, .. }
+        | Action::Take { r, .. }
+        | Action::Copy { r, .. } => is_unlisted(set, count, r),
+        Action::Move { r, s } => is_unlisted(set, count, s) | is_unlisted(set, count, r),
     }
 }
 
 // Which of the refusals 7 and 8 comes first: one pass over the actions within the count, which stops at a read.
-pub(crate) fn undeclared_by(b: &[u8]) -> Undeclared
-    requires { (length b.now ≡ 88) × (byte_at b.now 2 ≤ 4) }
-    ensures { (result.read ≡ undeclared_read b.now)
-        × (result.read ≡ false → result.write ≡ undeclared_write b.now) }
+pub(crate) fn undeclared(b: &Entry) -> Option<Refusal>
+    requires { byte_at b.now 2 ≤ 4 }
+    ensures { result ≡ first_undeclared (undeclared_read b.now) (undeclared_write b.now) }
 {
     let reads = fields::set_at(b, 4);
     let writes = fields::set_at(b, 12);
-    let count = size(b[2]);
-    let mut write = false;
-    let mut k: usize = 0;
-    while k < count {
-        let x = fields::fields_at(b, 24 + 16 * k);
-        if reads_unlisted(x, reads, b[0]) {
-            return Undeclared { read: true, write };
+    let mut found = None;
+    for k in 0..usize::from(b[2]) {
+        let action = decode::action_at(b, 24 + 16 * k);
+        if reads_unlisted(action, &reads, b[0]) {
+            return Some(Refusal::UndeclaredRead);
         }
-        write = write | writes_unlisted(x, writes, b[1]);
-        k += 1;
+        if writes_unlisted(action, &writes, b[1]) {
+            found = Some(Refusal::UndeclaredWrite);
+        }
     }
-    Undeclared { read: false, write }
+    found
 }

@@ -1,25 +1,48 @@
 // The layout of a case in the file: see reference/README.md.
+ghost use Rattle.std.specs.Prelude.{◌+◌, ◌≤◌};
+
+// What is asked of the bytes that a case lends; a number that is neither 1 nor 2 asks for an entry.
+#[derive(Clone, Copy)]
+pub enum Asked {
+    Unpack,
+    Pack,
+    Entry,
+}
+
+impl From<u8> for Asked {
+    fn from(what: u8) -> Asked {
+        match what {
+            1 => Asked::Unpack,
+            2 => Asked::Pack,
+            _ => Asked::Entry,
+        }
+    }
+}
 
 // The head of a case: what is asked (1 unpack, 2 pack, 3 an entry of a log), N, the index, the length of what is lent.
 #[derive(Clone, Copy)]
-pub struct Asked {
-    pub what: u8,
+pub struct Head {
+    pub asked: Asked,
     pub n: usize,
     pub index: usize,
     pub length: u16,
 }
 
-pub(crate) fn head_of(head: [u8; 19]) -> Asked {
-    let n = little::long([
-        head[1], head[2], head[3], head[4], head[5], head[6], head[7], head[8],
-    ]);
-    let index = little::long([
-        head[9], head[10], head[11], head[12], head[13], head[14], head[15], head[16],
-    ]);
-    Asked {
-        what: head[0],
-        n: n as usize,
-        index: index as usize,
-        length: little::word([head[17], head[18]]),
+fn long_at(head: &[u8; 19], at: usize) -> u64
+    requires { at + 8 ≤ 19 }
+{
+    let mut long = [0; 8];
+    long.copy_from_slice(&head[at..at + 8]);
+    little::long(long)
+}
+
+impl From<[u8; 19]> for Head {
+    fn from(head: [u8; 19]) -> Head {
+        Head {
+            asked: Asked::from(head[0]),
+            n: long_at(&head, 1) as usize,
+            index: long_at(&head, 9) as usize,
+            length: little::word([head[17], head[18]]),
+        }
     }
 }

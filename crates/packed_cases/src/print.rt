@@ -1,83 +1,63 @@
 // The answers as lines.
-use case_files::{print_number, print_text};
-use packed::{Action, ActionRow, Unpacked};
-use std::io;
+use packed::{Action, Unpacked};
+use std::{fmt, io};
 use terms::{Verdict, verdict_number, verdict_place};
 
 // The answer, the paper's number and the place.
 pub(crate) fn verdict(rt: &impl Print, v: Verdict) -> io::Result<()> {
-    match v {
-        Ok(()) => print_text(rt, b"accepted")?,
-        Err(_) => print_text(rt, b"refused")?,
-    }
-    print_number(rt, verdict_number(v) as u64)?;
-    print_number(rt, verdict_place(v) as u64)
+    let answer = if v.is_ok() { "accepted" } else { "refused" };
+    let number = verdict_number(v);
+    let place = verdict_place(v);
+    print!(rt; "{answer} {number} {place}")
 }
 
 fn set(rt: &impl Print, records: [u16; 4]) -> io::Result<()> {
-    print_text(rt, b" :")?;
-    print_number(rt, records[0] as u64)?;
-    print_number(rt, records[1] as u64)?;
-    print_number(rt, records[2] as u64)?;
-    print_number(rt, records[3] as u64)
+    print!(rt; " :")?;
+    for record in records {
+        print!(rt; " {record}")?;
+    }
+    Ok(())
 }
 
-fn named(rt: &impl Print, name: &[u8], first: u16, second: u64) -> io::Result<()> {
-    print_text(rt, name)?;
-    print_number(rt, first as u64)?;
-    print_number(rt, second)
-}
+// An action, with the fields that its kind has.
+#[derive(Clone, Copy)]
+struct Line(Action);
 
-fn row(rt: &impl Print, x: ActionRow) -> io::Result<()> {
-    print_text(rt, b" : ")?;
-    let action = x.action;
-    match action {
-        Action::Nothing => print_text(rt, b"nothing"),
-        Action::Set { r, c } => named(rt, b"set", r, c),
-        Action::Add { r, c } => named(rt, b"add", r, c),
-        Action::Take { r, c } => named(rt, b"take", r, c),
-        Action::Copy { r, s } => named(rt, b"copy", r, s as u64),
-        Action::Move { r, s } => named(rt, b"move", r, s as u64),
-        Action::Floor { r, c } => named(rt, b"floor", r, c),
+impl fmt::Display for Line {
+    fn fmt<W: fmt::Write>(&self, f: &mut fmt::Formatter<W>) -> fmt::Result {
+        match self.0 {
+            Action::Nothing => write!(f, "nothing"),
+            Action::Set { r, c } => write!(f, "set {r} {c}"),
+            Action::Add { r, c } => write!(f, "add {r} {c}"),
+            Action::Take { r, c } => write!(f, "take {r} {c}"),
+            Action::Copy { r, s } => write!(f, "copy {r} {s}"),
+            Action::Move { r, s } => write!(f, "move {r} {s}"),
+            Action::Floor { r, c } => write!(f, "floor {r} {c}"),
+        }
     }
 }
 
 // A whole line: the verdict and the meaning.
 pub(crate) fn unpacked(rt: &impl Print, u: Unpacked) -> io::Result<()> {
-    let v = u.verdict;
-    verdict(rt, v)?;
+    verdict(rt, u.verdict)?;
     let m = u.meaning;
-    print_number(rt, m.readcount as u64)?;
-    print_number(rt, m.writecount as u64)?;
-    print_number(rt, m.actioncount as u64)?;
-    let reads = m.reads;
-    set(rt, reads)?;
-    let writes = m.writes;
-    set(rt, writes)?;
-    let actions = m.actions;
-    row(rt, actions[0])?;
-    row(rt, actions[1])?;
-    row(rt, actions[2])?;
-    row(rt, actions[3])?;
-    print_text(rt, b"\n")
-}
-
-fn byte(rt: &impl Print, value: u8) -> io::Result<()> {
-    print!(rt; "{value:02x}")
-}
-
-fn dash_if(rt: &impl Print, none: bool) -> io::Result<()> {
-    if none {
-        print_text(rt, b"-")?;
+    print!(rt; " {} {} {}", m.readcount, m.writecount, m.actioncount)?;
+    set(rt, m.reads)?;
+    set(rt, m.writes)?;
+    for row in m.actions {
+        let line = Line(row.action);
+        print!(rt; " : {line}")?;
     }
-    Ok(())
+    println!(rt)
 }
 
 // The bytes in hexadecimal, and a dash for none.
 pub(crate) fn hex(rt: &impl Print, bytes: &[u8]) -> io::Result<()> {
-    dash_if(rt, bytes.is_empty())?;
+    if bytes.is_empty() {
+        return print!(rt; "-");
+    }
     for value in bytes {
-        byte(rt, *value)?;
+        print!(rt; "{value:02x}")?;
     }
     Ok(())
 }

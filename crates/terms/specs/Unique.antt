@@ -1,10 +1,12 @@
 -- Each contract determines its function's result: two results that satisfy it are equal.
-use Rattle.std.specs.Prelude.{ℕ, Bool, ◌≡◌, eqb}
+use Rattle.std.specs.Prelude.{ℕ, Bool, ◌≡◌, eqb, Ok}
 use Rattle.std.proofs.Common.{sym, ◌∙◌}
-use Rattle.terms.specs.Refusals.{number_of, place_of, Verdict, refused, verdict_number, verdict_place}
+use Rattle.terms.specs.Refusals.{number_of, place_of, Verdict, refused_at, refused, refuse_if}
+use Rattle.terms.specs.Refusals.{verdict_number, verdict_place}
 use Rattle.terms.specs.Reserved.{no_slot, no_end}
 use Rattle.terms.specs.declared.refusal.Place.{Place}
 use Rattle.terms.specs.declared.refusal.Refusal.{Refusal}
+use Rattle.terms.specs.declared.refusal.Refused.{Refused}
 
 -- what equals the same is equal
 pub same : {A : Type 0} {x a b : A} → a ≡ x → b ≡ x → a ≡ b
@@ -17,9 +19,17 @@ pub of_unique : (refusal : Refusal) (transaction : ℕ) (a b : Place)
     → a ≡ place_of refusal transaction → b ≡ place_of refusal transaction → a ≡ b
 of_unique refusal transaction a b = same
 
+pub at_unique : (refusal : Refusal) (transaction : ℕ) (a b : Refused)
+    → a ≡ refused_at refusal transaction → b ≡ refused_at refusal transaction → a ≡ b
+at_unique refusal transaction a b = same
+
 pub refuse_unique : (refusal : Refusal) (transaction : ℕ) (a b : Verdict)
     → a ≡ refused refusal transaction → b ≡ refused refusal transaction → a ≡ b
 refuse_unique refusal transaction a b = same
+
+pub refuse_if_unique : (fault : Bool) (refusal : Refusal) (transaction : ℕ) (a b : Verdict)
+    → a ≡ refuse_if fault refusal transaction (Ok tt) → b ≡ refuse_if fault refusal transaction (Ok tt) → a ≡ b
+refuse_if_unique fault refusal transaction a b = same
 
 pub verdict_number_unique : (verdict : Verdict) (a b : ℕ)
     → a ≡ verdict_number verdict → b ≡ verdict_number verdict → a ≡ b

@@ -2,24 +2,24 @@
 ghost use Rattle.std.specs.Prelude.{◌≡◌};
 ghost use Rattle.terms.specs.Refusals.{number_of, place_of, refused_at, refuse_if, verdict_number, verdict_place};
 
-// A case for each line of the table, in its order.
+// A case for each line of the table, in its order, with the number that the paper gives to it.
 #[derive(Clone, Copy, Debug, PartialEq, Eq)]
 pub enum Refusal {
-    WrongParameter,
-    WrongLength,
-    PositionsRunOut,
-    Malformed,
-    NoSuchRecord,
-    NotAscending,
-    UndeclaredRead,
-    UndeclaredWrite,
-    WrongMoment,
-    NoSuchParty,
-    PartitionDone,
-    WorkerBusyOrIdle,
-    NotUnprocessed,
-    StateOutOfRange,
-    BrokenTables,
+    WrongParameter = 1,
+    WrongLength = 2,
+    PositionsRunOut = 3,
+    Malformed = 4,
+    NoSuchRecord = 5,
+    NotAscending = 6,
+    UndeclaredRead = 7,
+    UndeclaredWrite = 8,
+    WrongMoment = 9,
+    NoSuchParty = 10,
+    PartitionDone = 11,
+    WorkerBusyOrIdle = 12,
+    NotUnprocessed = 13,
+    StateOutOfRange = 14,
+    BrokenTables = 15,
 }
 
 // Where a refusal lies: the index of a transaction in its batch.
@@ -43,23 +43,7 @@ impl Refusal {
     pub fn number(self) -> u8
         ensures { result ≡ number_of self }
     {
-        match self {
-            Refusal::WrongParameter => 1,
-            Refusal::WrongLength => 2,
-            Refusal::PositionsRunOut => 3,
-            Refusal::Malformed => 4,
-            Refusal::NoSuchRecord => 5,
-            Refusal::NotAscending => 6,
-            Refusal::UndeclaredRead => 7,
-            Refusal::UndeclaredWrite => 8,
-            Refusal::WrongMoment => 9,
-            Refusal::NoSuchParty => 10,
-            Refusal::PartitionDone => 11,
-            Refusal::WorkerBusyOrIdle => 12,
-            Refusal::NotUnprocessed => 13,
-            Refusal::StateOutOfRange => 14,
-            Refusal::BrokenTables => 15,
-        }
+        self as u8
     }
 
     // A refusal of the transaction at this index.
@@ -78,8 +62,7 @@ impl Place {
     pub fn of(refusal: Refusal, transaction: usize) -> Place
         ensures { result ≡ place_of refusal transaction }
     {
-        let number = refusal.number();
-        if (4 <= number) & (number <= 8) {
+        if (4..=8).contains(&refusal.number()) {
             Place { transaction }
         } else {
             Place { transaction: 0 }

@@ -1,4 +1,5 @@
-// Two numbers of document 01 that stand for something absent.
+// Two numbers of document 01 that stand for something absent. Numbers and no Option: they stand in the lent tables,
+// whose form document 01 gives.
 ghost use Rattle.std.specs.Prelude.{◌≡◌, eqb};
 ghost use Rattle.terms.specs.Reserved.{no_slot, no_end};
 

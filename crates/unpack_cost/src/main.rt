@@ -9,48 +9,41 @@ use std::fs::File;
 use std::io;
 use std::rt::Files;
 
+// A sum, wrapped at 2^64.
 fn sum(a: u64, b: u64) -> u64 {
     a.wrapping_add(b)
 }
 
 fn action_tally(row: ActionRow) -> u64 {
-    let action = row.action;
-    match action {
+    match row.action {
         Action::Nothing => 0,
-        Action::Set { r, c } => sum(r as u64, c),
-        Action::Add { r, c } => sum(r as u64, c),
-        Action::Take { r, c } => sum(r as u64, c),
-        Action::Copy { r, s } => sum(r as u64, s as u64),
-        Action::Move { r, s } => sum(r as u64, s as u64),
-        Action::Floor { r, c } => sum(r as u64, c),
+        Action::Set { r, c }
+        | Action::Add { r, c }
+        | Action::Take { r, c }
+        | Action::Floor { r, c } => sum(u64::from(r), c),
+        Action::Copy { r, s } | Action::Move { r, s } => sum(u64::from(r), u64::from(s)),
     }
 }
 
 fn set_tally(set: [u16; 4]) -> u64 {
-    sum(
-        sum(set[0] as u64, set[1] as u64),
-        sum(set[2] as u64, set[3] as u64),
-    )
+    set.iter()
+        .fold(0, |total, &record| sum(total, u64::from(record)))
 }
 
 fn tally(t: Transaction) -> u64 {
-    let reads = t.reads;
-    let writes = t.writes;
-    let actions = t.actions;
-    let counts = sum(
-        t.readcount as u64,
-        sum(t.writecount as u64, t.actioncount as u64),
-    );
-    let sets = sum(set_tally(reads), set_tally(writes));
-    let first = sum(action_tally(actions[0]), action_tally(actions[1]));
-    let second = sum(action_tally(actions[2]), action_tally(actions[3]));
-    sum(sum(counts, sets), sum(first, second))
+    let counts = [t.readcount, t.writecount, t.actioncount];
+    let counts = counts
+        .iter()
+        .fold(0, |total, &count| sum(total, u64::from(count)));
+    let sets = sum(set_tally(t.reads), set_tally(t.writes));
+    t.actions.iter().fold(sum(counts, sets), |total, &row| {
+        sum(total, action_tally(row))
+    })
 }
 
 // What one entry adds: all that it holds, or 1 where it is refused.
 fn weight(unpacked: Unpacked) -> u64 {
-    let verdict = unpacked.verdict;
-    match verdict {
+    match unpacked.verdict {
         Ok(()) => tally(unpacked.meaning),
         Err(_) => 1,
     }
@@ -58,16 +51,9 @@ fn weight(unpacked: Unpacked) -> u64 {
 
 // The bytes after the last whole entry are left out.
 fn total(bytes: &[u8]) -> u64 {
-    let mut total: u64 = 0;
-    let mut at: usize = 0;
-    while at < bytes.len() {
-        if bytes.len() - at < 88 {
-            return total;
-        }
-        total = sum(total, weight(packed::unpack(&bytes[at..at + 88], 1024)));
-        at += 88;
-    }
-    total
+    bytes.chunks_exact(88).fold(0, |total, entry| {
+        sum(total, weight(packed::unpack(entry, 1024)))
+    })
 }
 
 // Reads as much of the file as there is room for; a missing one counts as empty.

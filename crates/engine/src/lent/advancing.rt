@@ -2,14 +2,14 @@
 ghost use Rattle.std.specs.Prelude.{◌≡◌, ◌*◌, set};
 ghost use Rattle.engine.specs.Advance.{advance_of, with_filled, with_results};
 ghost use Rattle.engine.specs.Lent.{joined};
-ghost use Rattle.engine.specs.LawsAdvance.{row_left};
+ghost use Rattle.engine.specs.LawsAdvance.{row_left, answered, rows_by, crew_by, versions_by, results_by};
 ghost use Rattle.engine.specs.LawsLentAdvance.{aim_by, turn_with};
 
 use crate::advance::{Aim, fill_one, give_results};
 use crate::lent::entries::worker_at;
 use crate::lent::{Numbers, range};
 use crate::moves::Move;
-use crate::{Answer, Row, Worker};
+use crate::{Answer, Row, Worker, tables};
 use packed::unpack_at;
 use terms::{Refusal, Refused, refuse_if};
 use versions::Version;
@@ -22,27 +22,22 @@ pub(crate) fn consider_advance(
     w: usize,
     worker: Worker,
     log: &[u8],
-    newest: usize,
     records: usize,
+    newest: usize,
     versions: usize,
     results: usize,
 ) -> Result<Aim, Refused>
-    ensures { result ≡ aim_by wrong numbers w worker log.now newest records versions results }
+    ensures { result ≡ aim_by wrong numbers w worker log.now records newest versions results }
 {
-    refuse_if(
-        numbers.is_wrong_for_advance(records, newest, versions, results),
-        Refusal::WrongParameter,
-        0,
-    )?;
-    refuse_if(numbers.is_out_of_range(wrong), Refusal::StateOutOfRange, 0)?;
+    let wrong_table = numbers.is_wrong_for_advance(records, newest, versions, results);
+    refuse_if(wrong_table, Refusal::WrongParameter, 0)?;
+    let out_of_range = numbers.is_out_of_range(wrong);
+    refuse_if(out_of_range, Refusal::StateOutOfRange, 0)?;
     refuse_if(numbers.is_not_running(), Refusal::WrongMoment, 0)?;
     refuse_if(usize::from(numbers.workers) <= w, Refusal::NoSuchParty, 0)?;
     refuse_if(worker.is_idle(), Refusal::WorkerBusyOrIdle, 0)?;
-    refuse_if(
-        log.len() != 88 * usize::from(numbers.size),
-        Refusal::WrongLength,
-        0,
-    )?;
+    let wrong_length = log.len() != 88 * usize::from(numbers.size);
+    refuse_if(wrong_length, Refusal::WrongLength, 0)?;
     let entry = unpack_at(
         log,
         usize::from(worker.transaction),
@@ -82,8 +77,8 @@ pub(crate) fn turn(
         party,
         worker,
         log,
-        newest.len(),
         records.len(),
+        newest.len(),
         versions.len(),
         four,
     )?;
@@ -96,6 +91,34 @@ pub(crate) fn leave(rows: &mut [Row], transaction: u8, left: Option<Row>)
 {
     if let Some(row) = left {
         tables::put(rows, usize::from(transaction), row);
+    }
+}
+
+// The answer, and what the advance changes; a refused one changes nothing.
+fn carry_out(
+    rows: &mut [Row],
+    crew: &mut [Worker],
+    party: usize,
+    transaction: u8,
+    versions: &mut [Version],
+    results: &mut [u64],
+    turn: Result<Move, Refused>,
+) -> Answer
+    ensures answer { result ≡ answered turn }
+    ensures rows { rows.new ≡ rows_by turn rows.old transaction }
+    ensures crew { crew.new ≡ crew_by turn crew.old party }
+    ensures versions { versions.new ≡ versions_by turn versions.old }
+    ensures results { results.new ≡ results_by turn results.old transaction }
+{
+    match turn {
+        Ok(step) => {
+            leave(rows, transaction, step.left);
+            tables::put(crew, party, step.worker);
+            fill_one(versions, step.fill);
+            give_results(results, transaction, step.results);
+            step.answer()
+        }
+        Err(why) => Answer::from(why),
     }
 }
 
@@ -140,14 +163,13 @@ pub fn advance(
         versions,
         results.len(),
     );
-    match turn {
-        Ok(step) => {
-            leave(rows, worker.transaction, step.left);
-            tables::put(crew, party, step.worker);
-            fill_one(versions, step.fill);
-            give_results(results, worker.transaction, step.results);
-            step.answer()
-        }
-        Err(why) => Answer::from(why),
-    }
+    carry_out(
+        rows,
+        crew,
+        party,
+        worker.transaction,
+        versions,
+        results,
+        turn,
+    )
 }

@@ -1,7 +1,6 @@
-use Rattle.std.proofs.Common.{refl}
-use Rattle.little.specs.Little.{bytes_of}
+use Rattle.std.proofs.Common.{◌∙◌}
+use Rattle.little.specs.Laws.{written}
 use Rattle.little.proofs.word_bytes.Goals as goal
 
 pub returns : goal.returns
-unfolding bytes_of
-returns c = refl
+returns c = c.to_le_bytes.ensures ∙ written c.args.value 2

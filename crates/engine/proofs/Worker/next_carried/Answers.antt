@@ -22,7 +22,8 @@ returns c =
     (YieldsList-from_map _ (λ (p : ℕ × Bool). p.0)
     (YieldsList-at c.map.ensures.source
     (YieldsList-from_filter _ (λ (p : ℕ × Bool). p.1)
-    (YieldsList-from_zip (YieldsList-from_range 0 4 4 (cc) (omega arith)) (YieldsList-from_slice c.args.self.carried (cc)))
+    (YieldsList-from_zip (YieldsList-from_range 0 4 4 (cc) (omega arith))
+    (YieldsList-from_slice c.args.self.carried (cc)))
     c.filter.ensures.closure
     (λ x b q k. search (rules, tests))))
     c.map.ensures.closure (λ x r q k. search rules)) in

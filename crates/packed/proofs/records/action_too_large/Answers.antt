@@ -1,20 +1,23 @@
-use Rattle.std.proofs.Common.{arith}
+use Rattle.std.proofs.Common.{refl, arith, ap, ◌∙◌}
+use Rattle.packed.specs.Encode.{fields_of}
+use Rattle.packed.specs.LawsMeaning.{too_large_kept}
 use Rattle.packed.specs.LawsRecords.{none_yet, none_more, found}
+use Rattle.packed.specs.Records.{uses_too_large}
 use Rattle.packed.proofs.records.action_too_large.Goals as goal
 
 pub loop-k-init : goal.loop-k-init
-loop-k-init c = record { within = omega arith; none = none_yet _ _ }
+loop-k-init c = none_yet _ _
 
 pub returns-then-uses_too_large : goal.returns-then-uses_too_large
 returns-then-uses_too_large c =
-    let answer = c.uses_too_large.ensures in
-    found _ _ c.loop-k.k c.size-count.ensures (omega arith) c.fields_at.ensures answer c.if-uses_too_large.true
+    let n = c.args.n in
+    let action = ap (λ action. uses_too_large n (fields_of action)) c.action_at.ensures in
+    let told = c.uses_too_large.ensures ∙ action ∙ too_large_kept n _ in
+    found _ _ c.loop-k.k c.from-k-end.ensures (omega arith) refl told c.if-uses_too_large.true
 
 pub loop-k-preserved : goal.loop-k-preserved
 loop-k-preserved c =
-    let answer = c.uses_too_large.ensures in
-    let fails = c.if-uses_too_large.false in
-    record {
-      within = omega arith;
-      none = none_more _ _ c.loop-k.k c.loop-k.invariant.none c.fields_at.ensures answer fails;
-    }
+    let n = c.args.n in
+    let action = ap (λ action. uses_too_large n (fields_of action)) c.action_at.ensures in
+    let told = c.uses_too_large.ensures ∙ action ∙ too_large_kept n _ in
+    none_more _ _ c.loop-k.k c.loop-k.invariant refl told c.if-uses_too_large.false

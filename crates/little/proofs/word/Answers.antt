@@ -1,0 +1,6 @@
+use Rattle.std.proofs.Common.{arith, ◌∙◌}
+use Rattle.little.specs.Laws.{read_whole}
+use Rattle.little.proofs.word.Goals as goal
+
+pub returns : goal.returns
+returns c = c.from_le_bytes.ensures ∙ read_whole c.args.bytes 1 (omega arith)
