@@ -16,7 +16,8 @@ pub use output::{counts_of, make_for, opening_line, record_at, refusal_line, tra
 pub use text::{counts_line, not_sealed_line, record_line, refused_line, transaction_line};
 
 // "4 bytes a step: kind 1 place, 2 claim, 3 advance, 4 seal; party; 16-bit transaction, zero except for a claim".
-// A kind is a number here (a): the file's form, which `step_at` and the theorems of `promised` name; `asks` has the enum.
+// A kind is a number here (a): the file's form, which `step_at` and the theorems of `promised` name; `asks` has the
+// enum.
 #[derive(Clone, Copy, Debug, PartialEq, Eq)]
 pub struct Step {
     pub kind: u8,

@@ -60,8 +60,8 @@ fn batch<R: Print, F: Read>(
     print::all(rt, tally, setup, tables)
 }
 
-// A store that was made. The newest-version table is as long as the records. Of the log so much is read that one that is
-// too long is refused.
+// A store that was made. The newest-version table is as long as the records. Of the log so much is read that one that
+// is too long is refused.
 pub(crate) fn run_made<R: Print, F: Read + Seek>(
     rt: &R,
     state: State,
