@@ -9,10 +9,18 @@ use terms::Position;
 // "make N, P, W, start; place p; claim w, i; advance w"
 #[derive(Clone, Copy)]
 pub(crate) enum Call {
-    Make(usize, usize, usize, Position),
+    Make {
+        records: usize,
+        partitions: usize,
+        workers: usize,
+        start: Position,
+    },
     Open,
     Place(usize),
-    Claim(usize, usize),
+    Claim {
+        worker: usize,
+        transaction: usize,
+    },
     Advance(usize),
     Seal,
 }
@@ -37,15 +45,18 @@ impl Call {
         };
         let [first, second, third, fourth] = next_all::<4>(file)?;
         let call = match number {
-            0 => Call::Make(
-                first as usize,
-                second as usize,
-                third as usize,
-                Position(fourth),
-            ),
+            0 => Call::Make {
+                records: first as usize,
+                partitions: second as usize,
+                workers: third as usize,
+                start: Position(fourth),
+            },
             1 => Call::Open,
             2 => Call::Place(first as usize),
-            3 => Call::Claim(first as usize, second as usize),
+            3 => Call::Claim {
+                worker: first as usize,
+                transaction: second as usize,
+            },
             4 => Call::Advance(first as usize),
             _ => Call::Seal,
         };
@@ -60,12 +71,18 @@ impl Call {
         let records = &mut *tables.records;
         let results = &mut *tables.results;
         match self {
-            Call::Make(records, partitions, workers, start) => {
-                stepped(State::make(records, partitions, workers, start))
-            }
+            Call::Make {
+                records,
+                partitions,
+                workers,
+                start,
+            } => stepped(State::make(records, partitions, workers, start)),
             Call::Open => state.open(log, newest, versions, results),
             Call::Place(partition) => state.place(partition, log, newest, versions),
-            Call::Claim(worker, transaction) => state.claim(worker, transaction),
+            Call::Claim {
+                worker,
+                transaction,
+            } => state.claim(worker, transaction),
             Call::Advance(worker) => state.advance(worker, log, records, newest, versions, results),
             Call::Seal => state.seal(records, newest, versions),
         }

@@ -15,15 +15,6 @@ pub(crate) trait Entry: Copy {
     fn print(self, rt: &impl Print, index: usize) -> io::Result<()>;
 }
 
-// An entry that is left out where its numbers are the blank one's.
-fn print_unless(rt: &impl Print, index: usize, numbers: &[u64], blank: &[u64]) -> io::Result<()> {
-    if numbers == blank {
-        return Ok(());
-    }
-    print!(rt; " {index}")?;
-    print::numbers(rt, numbers)
-}
-
 // A record or a result.
 impl Entry for u64 {
     fn next(file: &mut impl Read) -> io::Result<u64> {
@@ -31,7 +22,10 @@ impl Entry for u64 {
     }
 
     fn print(self, rt: &impl Print, index: usize) -> io::Result<()> {
-        print_unless(rt, index, &[self], &[0])
+        if self == 0 {
+            return Ok(());
+        }
+        print!(rt; " {index} {self}")
     }
 }
 
@@ -42,7 +36,10 @@ impl Entry for u16 {
     }
 
     fn print(self, rt: &impl Print, index: usize) -> io::Result<()> {
-        print_unless(rt, index, &[u64::from(self)], &[65535])
+        if terms::is_no_slot(self) {
+            return Ok(());
+        }
+        print!(rt; " {index} {self}")
     }
 }
 
@@ -59,10 +56,25 @@ impl Entry for Version {
     }
 
     fn print(self, rt: &impl Print, index: usize) -> io::Result<()> {
-        let previous = u64::from(self.previous);
-        let produced = u64::from(self.produced);
-        let numbers = [self.begin, self.end, previous, self.contents, produced];
-        print_unless(rt, index, &numbers, &[0, 0, 65535, 0, 0])
+        match self {
+            Version {
+                begin: 0,
+                end: 0,
+                previous: terms::NO_SLOT,
+                contents: 0,
+                produced: false,
+            } => Ok(()),
+            Version {
+                begin,
+                end,
+                previous,
+                contents,
+                produced,
+            } => print!(rt;
+                " {index} {begin} {end} {previous} {contents} {}",
+                u8::from(produced)
+            ),
+        }
     }
 }
 
@@ -159,31 +171,27 @@ impl Entry for Worker {
     }
 
     fn print(self, rt: &impl Print, index: usize) -> io::Result<()> {
-        let [code, outcome, read, carries, fills] = phase_numbers(self.phase);
-        let transaction = u64::from(self.transaction);
-        let [v0, v1, v2, v3] = self.values;
-        let [c0, c1, c2, c3] = self.contents;
-        let [m0, m1, m2, m3] = self.carried.map(u64::from);
-        let numbers = [
-            code,
-            transaction,
-            outcome,
-            read,
-            carries,
-            fills,
-            v0,
-            v1,
-            v2,
-            v3,
-            c0,
-            c1,
-            c2,
-            c3,
-            m0,
-            m1,
-            m2,
-            m3,
-        ];
-        print_unless(rt, index, &numbers, &[0; 18])
+        match self {
+            Worker {
+                phase: Phase::Idle,
+                transaction: 0,
+                values: [0, 0, 0, 0],
+                contents: [0, 0, 0, 0],
+                carried: [false, false, false, false],
+            } => Ok(()),
+            Worker {
+                phase,
+                transaction,
+                values,
+                contents,
+                carried,
+            } => {
+                let [code, outcome, read, carries, fills] = phase_numbers(phase);
+                print!(rt; " {index} {code} {transaction} {outcome} {read} {carries} {fills}")?;
+                print::numbers(rt, &values)?;
+                print::numbers(rt, &contents)?;
+                print::numbers(rt, &carried.map(u64::from))
+            }
+        }
     }
 }

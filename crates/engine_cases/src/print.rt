@@ -23,6 +23,7 @@ fn answer(rt: &impl Print, answer: Answer) -> io::Result<()> {
     }
 }
 
+// The entries that a file does not leave out, each after its index.
 fn entries<T: Entry>(rt: &impl Print, table: &[T]) -> io::Result<()> {
     for (index, entry) in table.iter().enumerate() {
         entry.print(rt, index)?;
@@ -30,6 +31,7 @@ fn entries<T: Entry>(rt: &impl Print, table: &[T]) -> io::Result<()> {
     Ok(())
 }
 
+// "The state has its end marks 64 and 8; the tables are without their 2^64 − 1."
 fn state(rt: &impl Print, state: State) -> io::Result<()> {
     let counts = [
         u64::from(state.records),
