@@ -13,13 +13,10 @@ use calls::Call;
 use std::fs::File;
 use std::io;
 use std::io::Read;
-use tables::Tables;
+use tables::{LONGEST, Tables};
 
 // A file holds at most this many cases.
 const MOST: usize = 1000000;
-
-// A table has at most this many entries.
-const LONGEST: usize = 70000;
 
 // What follows the call in the file, and the call's six lines.
 fn case(rt: &impl Print, file: &mut impl Read, call: Call) -> io::Result<()> {

@@ -24,9 +24,9 @@ pub(crate) fn next(file: &mut impl Read) -> io::Result<State> {
     let [records, partitions, workers, first, size, sealed] = next_all::<6>(file)?;
     let placed = next_all::<8>(file)?;
     let mut rows = [UNPROCESSED; 64];
-    tables::entries(file, &mut rows)?;
+    tables::entries(file, &mut rows, 64)?;
     let mut crew = [IDLE; 8];
-    tables::entries(file, &mut crew)?;
+    tables::entries(file, &mut crew, 8)?;
     Ok(State {
         records: word(records),
         partitions: byte(partitions),

@@ -5,6 +5,9 @@ use std::io;
 use std::io::Read;
 use versions::Version;
 
+// A table has at most this many entries.
+pub(crate) const LONGEST: usize = 70000;
+
 // The tables that the caller lends.
 #[derive(Drop)]
 pub(crate) struct Tables<'a> {
@@ -14,14 +17,17 @@ pub(crate) struct Tables<'a> {
     pub results: &'a mut [u64],
 }
 
-// The entries that the file names, each after its index; an index past the table's end ends them.
-pub(crate) fn entries<T: Entry>(file: &mut impl Read, table: &mut [T]) -> io::Result<()> {
-    for _ in 0..=table.len() {
-        let index = numbers::next(file)? as usize;
-        let Some(place) = table.get_mut(index) else {
+// The entries that the file names, each after its index, up to the end mark. One past the table's end is passed over.
+pub(crate) fn entries<T: Entry>(file: &mut impl Read, table: &mut [T], end: u64) -> io::Result<()> {
+    for _ in 0..=end.min(LONGEST as u64) {
+        let index = numbers::next(file)?;
+        if index >= end {
             break;
-        };
-        *place = T::next(file)?;
+        }
+        let entry = T::next(file)?;
+        if let Some(place) = table.get_mut(index as usize) {
+            *place = entry;
+        }
     }
     Ok(())
 }
@@ -33,7 +39,7 @@ pub(crate) fn next<'a, T: Entry>(
 ) -> io::Result<&'a mut [T]> {
     let length = space.len().min(numbers::next(file)? as usize);
     let table = &mut space[..length];
-    entries(file, table)?;
+    entries(file, table, u64::MAX)?;
     Ok(table)
 }
 
