@@ -23,7 +23,7 @@ use Rattle.packed.specs.declared.Transaction.{Transaction}
 use Rattle.packed.specs.declared.Unpacked.{Unpacked}
 use Rattle.counters.specs.Listing.{transaction}
 use Rattle.excluded.specs.Rows.{Row, row, AllExclude, all_exclude}
-use Rattle.excluded.specs.Terms.{verdict_parts, at}
+use Rattle.excluded.specs.Terms.{verdict_parts, at, refusing}
 
 -- ---- the parts of an answer
 abbrev pub unpacked_parts : Unpacked → List ℕ
@@ -51,7 +51,7 @@ accepts b = unpacked (Ok tt) (decode b)
 
 -- they are refused, with this place
 abbrev refuses : Refusal → ℕ → Unpacked
-refuses refusal index = unpacked (Refused refusal (at index)) nothing
+refuses refusal index = unpacked (refusing refusal (at index)) nothing
 
 abbrev zeros : List ℕ
 zeros = replicate 88 0
@@ -118,7 +118,7 @@ rows =
     -- with its high byte first (constant_exchanged)
     ∷ row packed_parts (pack_of 4 (transaction (1 ∷ []) (2 ∷ []) []) zeros)
     (packed (Ok tt) (encode (transaction (1 ∷ []) (1 ∷ []) [])))
-    ∷ row packed_parts (pack_of 4 setting zeros) (packed (Refused WrongLength (at 0)) zeros)
+    ∷ row packed_parts (pack_of 4 setting zeros) (packed (refusing WrongLength (at 0)) zeros)
     ∷ row packed_parts (pack_of 4 setting zeros) (packed (Ok tt) (set (set (encode setting) 32 0) 39 7))
     ∷ []
 

@@ -1,9 +1,10 @@
 -- Wrong answers of the functions of `terms`, beside those that the gate tries as edits (crates/terms/must-fail). Edits
 -- that give these stand in tools/edits/terms.
-use Rattle.std.specs.Prelude.{ℕ, true, false, List, [], ◌∷◌, refl, eqb}
+use Rattle.std.specs.Prelude.{ℕ, true, false, List, [], ◌∷◌, refl, eqb, Err}
 use Rattle.terms.specs.Refusals.{number_of, place_of, refused, verdict_number, verdict_place, Verdict}
 use Rattle.terms.specs.Reserved.{no_slot, no_end}
 use Rattle.terms.specs.declared.refusal.Place.{Place}
+use Rattle.terms.specs.declared.refusal.Refusal.{Refusal}
 use Rattle.terms.specs.declared.refusal.Refusal.TheVariants.{WrongLength, Malformed, NotAscending}
 use Rattle.excluded.specs.Rows.{Row, row, number, mark, AllExclude, all_exclude}
 
@@ -18,8 +19,11 @@ verdict_parts verdict = verdict_number verdict ∷ verdict_place verdict ∷ []
 abbrev pub at : ℕ → Place
 at index = record { transaction = index }
 
+abbrev pub refusing : Refusal → Place → Verdict
+refusing refusal place = Err (record { refusal = refusal; place = place })
+
 abbrev six_at_three : Verdict
-six_at_three = Refused NotAscending (at 3)
+six_at_three = refusing NotAscending (at 3)
 
 -- ---- the rows
 abbrev pub rows : List Row
@@ -28,13 +32,13 @@ rows =
     row number (number_of WrongLength) 1
     -- Place::of: 0 for every refusal
     ∷ row place_parts (place_of NotAscending 3) (at 0)
-    -- Verdict::refuse: another refusal; the place of transaction 0
-    ∷ row verdict_parts (refused NotAscending 3) (Refused Malformed (at 3))
-    ∷ row verdict_parts (refused NotAscending 3) (Refused NotAscending (at 0))
-    -- Verdict::number: 4 for every refusal; 0 for every refusal
+    -- Refusal::at, and refuse_if where the fault is there: another refusal; the place of transaction 0
+    ∷ row verdict_parts (refused NotAscending 3) (refusing Malformed (at 3))
+    ∷ row verdict_parts (refused NotAscending 3) (refusing NotAscending (at 0))
+    -- verdict_number: 4 for every refusal; 0 for every refusal
     ∷ row number (verdict_number six_at_three) 4
     ∷ row number (verdict_number six_at_three) 0
-    -- Verdict::place: 0 for every refusal; 1 for every refusal
+    -- verdict_place: 0 for every refusal; 1 for every refusal
     ∷ row number (verdict_place six_at_three) 0
     ∷ row number (verdict_place six_at_three) 1
     -- is_no_slot: 65,534 for none; the opposite

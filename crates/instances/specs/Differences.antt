@@ -1,8 +1,10 @@
 -- What is never equal, and what differs where a part of it does.
-use Rattle.std.specs.Prelude.{ℕ, true, false, ◌≡◌, Ok}
+use Rattle.std.specs.Prelude.{ℕ, true, false, ◌≡◌, Ok, Err}
 use Rattle.std.proofs.Common.{ap, arith}
 use Rattle.terms.specs.declared.refusal.Place.{Place}
+use Rattle.terms.specs.Refusals.{Verdict}
 use Rattle.terms.specs.declared.refusal.Refusal.{Refusal}
+use Rattle.terms.specs.declared.refusal.Refused.{Refused as Refusing}
 use Rattle.engine.specs.Answers.{answer_position}
 use Rattle.engine.specs.declared.Answer.TheVariants.{Accepted, Waits, Refused}
 
@@ -25,7 +27,7 @@ waits_refused h = clash (cc)
 pub accepted_waits : {t : ℕ} → Accepted ≡ Waits (record { 0 = t }) → ⊥
 accepted_waits h = clash (cc)
 
-pub passed_fails : {refusal : Refusal} {at : Place} → Ok tt ≡ Fails refusal at → ⊥
+pub passed_fails : {why : Refusing} → ◌≡◌ {A = Verdict} (Ok tt) (Err why) → ⊥
 passed_fails h = clash (cc)
 
 -- the position of a wait

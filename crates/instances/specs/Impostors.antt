@@ -1,6 +1,6 @@
 -- The impostors that document 01 names. Each is a result of a shape, and the theorem says that no result of that shape
 -- satisfies the contract of the call at a named moment of the listing.
-use Rattle.std.specs.Prelude.{ℕ, Bool, true, false, List, ◌≡◌}
+use Rattle.std.specs.Prelude.{ℕ, Bool, true, false, List, ◌≡◌, Err}
 use Rattle.std.proofs.Math.Path.{refl}
 use Rattle.std.proofs.Common.{sym, ap, ◌∙◌, arith}
 use Rattle.std.proofs.Math.ListN.{get_or}
@@ -33,7 +33,7 @@ module _ (refusal : Refusal) (at : Place) (s : State) where
   not_refused : {x : Stepped} → x.answer ≡ Accepted → refuses ≡ x → ⊥
   not_refused accepted same = accepted_refused (sym (ap (λ r. r.answer) same ∙ accepted))
 
-  pub make_refusing : record { verdict = Fails refusal at; state = s } ≡ make_of 4 2 2 1 → ⊥
+  pub make_refusing : record { verdict = Err (record { refusal = refusal; place = at }); state = s } ≡ make_of 4 2 2 1 → ⊥
   unfolding after
   make_refusing same = passed_fails (sym (ap (λ r. r.verdict) same))
 
