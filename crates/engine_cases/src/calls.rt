@@ -37,30 +37,36 @@ fn stepped(made: Made) -> Stepped {
     }
 }
 
+// "0 make, 1 open, 2 place, 3 claim, 4 advance, 5 seal", and the four numbers that are given with it.
+impl From<[u64; 5]> for Call {
+    fn from(numbers: [u64; 5]) -> Call {
+        match numbers {
+            [0, records, partitions, workers, start] => Call::Make {
+                records: records as usize,
+                partitions: partitions as usize,
+                workers: workers as usize,
+                start: Position(start),
+            },
+            [1, ..] => Call::Open,
+            [2, partition, ..] => Call::Place(partition as usize),
+            [3, worker, transaction, ..] => Call::Claim {
+                worker: worker as usize,
+                transaction: transaction as usize,
+            },
+            [4, worker, ..] => Call::Advance(worker as usize),
+            _ => Call::Seal,
+        }
+    }
+}
+
 impl Call {
-    // The call of the next case, its number and four numbers; None where the file has no case left.
+    // The call of the next case; None where the file has no case left.
     pub fn next(file: &mut impl Read) -> io::Result<Option<Call>> {
-        let Some(number) = next_if_any(file)? else {
+        let Some(kind) = next_if_any(file)? else {
             return Ok(None);
         };
         let [first, second, third, fourth] = next_all::<4>(file)?;
-        let call = match number {
-            0 => Call::Make {
-                records: first as usize,
-                partitions: second as usize,
-                workers: third as usize,
-                start: Position(fourth),
-            },
-            1 => Call::Open,
-            2 => Call::Place(first as usize),
-            3 => Call::Claim {
-                worker: first as usize,
-                transaction: second as usize,
-            },
-            4 => Call::Advance(first as usize),
-            _ => Call::Seal,
-        };
-        Ok(Some(call))
+        Ok(Some(Call::from([kind, first, second, third, fourth])))
     }
 
     // Makes the call on this state, and lends it what it asks for.

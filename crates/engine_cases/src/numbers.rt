@@ -25,7 +25,7 @@ pub(crate) fn next_all<const N: usize>(file: &mut impl Read) -> io::Result<[u64;
     Ok(numbers)
 }
 
-// The low 16 bits of a number.
+// The low 16 bits of a number. Beside `byte`, since a cast that is generic in the width would need a trait.
 pub(crate) fn word(number: u64) -> u16 {
     (number % 65536) as u16
 }
