@@ -100,6 +100,7 @@ impl Entry for Row {
     }
 }
 
+// Outcomes and phases are of other crates, so that none of the conversions below can be a `From`.
 fn outcome(code: u64) -> Outcome {
     match code {
         0 => Outcome::Committed,

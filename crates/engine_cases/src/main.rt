@@ -15,7 +15,7 @@ use std::io;
 use std::io::Read;
 use tables::{LONGEST, Tables};
 
-// A file holds at most this many cases.
+// A file holds at most this many cases. With no bound nothing would show that the loop over them ends.
 const MOST: usize = 1000000;
 
 // What follows the call in the file, and the call's six lines.

@@ -24,6 +24,7 @@ fn action_held(action: Action) -> bool
 pub fn held(t: Transaction) -> bool
     ensures { Held t }
 {
+    // One by one: over `t.actions.iter().all(..)`, or a loop, the proof was not found.
     let [first, second, third, fourth] = t.actions;
     set_held(t.reads)
         & set_held(t.writes)
