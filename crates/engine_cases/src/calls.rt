@@ -69,6 +69,10 @@ impl Call {
         Ok(Some(Call::from([kind, first, second, third, fourth])))
     }
 
+    pub fn is_lent_versions(self) -> bool {
+        !matches!(self, Call::Make { .. } | Call::Claim { .. })
+    }
+
     // Makes the call on this state, and lends it what it asks for.
     pub fn step(self, state: State, log: &[u8], tables: &mut Tables<'_>) -> Stepped {
         // One by one: the borrow checker does not cover a pattern over the four.

@@ -4,12 +4,14 @@
 
 mod calls;
 mod entries;
+mod listed;
 mod numbers;
 mod print;
 mod state;
 mod tables;
 
 use calls::Call;
+use listed::List;
 use std::fs::File;
 use std::io;
 use std::io::Read;
@@ -26,15 +28,17 @@ fn case(rt: &impl Print, file: &mut impl Read, call: Call) -> io::Result<()> {
     let mut records = [0; LONGEST];
     let mut results = [0; LONGEST];
     let mut log = [0; 8192];
+    let newest = tables::next(file, &mut newest)?;
+    let list = List::next(file)?;
     let mut tables = Tables {
-        newest: tables::next(file, &mut newest)?,
-        versions: tables::next(file, &mut versions)?,
+        newest,
+        versions: list.table(&mut versions),
         records: tables::next(file, &mut records)?,
         results: tables::next(file, &mut results)?,
     };
     let log = tables::log(file, &mut log)?;
     let stepped = call.step(state, log, &mut tables);
-    print::after(rt, stepped, &tables)
+    print::after(rt, call, stepped, &tables, &list)
 }
 
 fn all_cases(rt: &impl Print, file: &mut impl Read) -> io::Result<()> {

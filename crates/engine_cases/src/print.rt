@@ -1,5 +1,7 @@
 // State and tables after a call, as lines.
+use crate::calls::Call;
 use crate::entries::Entry;
+use crate::listed::List;
 use crate::tables::Tables;
 use engine::{Answer, State, Stepped};
 use std::io;
@@ -57,11 +59,21 @@ fn table<T: Entry>(rt: &impl Print, name: &str, table: &[T]) -> io::Result<()> {
 }
 
 // The six lines of a case.
-pub(crate) fn after(rt: &impl Print, stepped: Stepped, tables: &Tables<'_>) -> io::Result<()> {
+pub(crate) fn after(
+    rt: &impl Print,
+    call: Call,
+    stepped: Stepped,
+    tables: &Tables<'_>,
+    list: &List,
+) -> io::Result<()> {
     answer(rt, stepped.answer)?;
     state(rt, stepped.state)?;
     table(rt, "newest", tables.newest)?;
-    table(rt, "versions", tables.versions)?;
+    if call.is_lent_versions() {
+        table(rt, "versions", tables.versions)?;
+    } else {
+        list.print(rt)?;
+    }
     table(rt, "records", tables.records)?;
     table(rt, "results", tables.results)
 }

@@ -17,15 +17,25 @@ pub(crate) struct Tables<'a> {
     pub results: &'a mut [u64],
 }
 
-// The entries that the file names, each after its index, up to the end mark. One past the table's end is passed over.
+// The next entry, after its index; None where the end mark stands.
+pub(crate) fn next_entry<T: Entry>(
+    file: &mut impl Read,
+    end: u64,
+) -> io::Result<Option<(usize, T)>> {
+    let index = numbers::next(file)?;
+    if index >= end {
+        return Ok(None);
+    }
+    Ok(Some((index as usize, T::next(file)?)))
+}
+
+// The entries that the file names, up to the end mark. One past the table's end is passed over.
 pub(crate) fn entries<T: Entry>(file: &mut impl Read, table: &mut [T], end: u64) -> io::Result<()> {
     for _ in 0..=end.min(LONGEST as u64) {
-        let index = numbers::next(file)?;
-        if index >= end {
+        let Some((index, entry)) = next_entry(file, end)? else {
             break;
-        }
-        let entry = T::next(file)?;
-        if let Some(place) = table.get_mut(index as usize) {
+        };
+        if let Some(place) = table.get_mut(index) {
             *place = entry;
         }
     }
