@@ -1,111 +1,100 @@
-// A case once it is read: which call it makes, and how the version table that goes with it is had.
-use crate::{print, tables};
-use engine::{Answer, State, Stepped};
+// The call that a case makes.
+use crate::numbers::{next_all, next_if_any};
+use crate::tables::Tables;
+use engine::{Answer, Made, State, Stepped};
 use std::io;
-use terms::{Position, Verdict};
+use std::io::Read;
+use terms::Position;
 
-// The call's number and its four numbers; the version table's length, and how many of its entries the case has.
+// "make N, P, W, start; place p; claim w, i; advance w"
 #[derive(Clone, Copy)]
-pub struct Asked {
-    pub call: u64,
-    pub first: usize,
-    pub second: usize,
-    pub third: usize,
-    pub fourth: u64,
-    pub length: usize,
-    pub count: usize,
+pub(crate) enum Call {
+    Make {
+        records: usize,
+        partitions: usize,
+        workers: usize,
+        start: Position,
+    },
+    Open,
+    Place(usize),
+    Claim {
+        worker: usize,
+        transaction: usize,
+    },
+    Advance(usize),
+    Seal,
 }
 
-fn answer_of(verdict: Verdict) -> Answer {
-    match verdict {
+// What making a store answers, as a step does.
+fn stepped(made: Made) -> Stepped {
+    let answer = match made.verdict {
         Ok(()) => Answer::Accepted,
-        Err(why) => Answer::Refused(why.refusal, why.place),
+        Err(refused) => Answer::Refused(refused.refusal, refused.place),
+    };
+    Stepped {
+        answer,
+        state: made.state,
     }
 }
 
-fn make(asked: Asked) -> Stepped {
-    let made = State::make(
-        asked.first,
-        asked.second,
-        asked.third,
-        Position(asked.fourth),
-    );
-    let verdict = made.verdict;
-    let answer = answer_of(verdict);
-    let state = made.state;
-    Stepped { answer, state }
-}
-
-fn show_entries(rt: &impl Print, asked: Asked, entries: &[u64]) -> io::Result<()> {
-    print::begin_versions(rt, asked.length)?;
-    for k in 0..asked.count {
-        print::version(
-            rt,
-            tables::slot_in(entries, k),
-            tables::version_in(entries, k),
-        )?;
-    }
-    Ok(())
-}
-
-// A call that is not lent the version table: it is printed as the case has it.
-fn without(
-    rt: &impl Print,
-    stepped: Stepped,
-    asked: Asked,
-    newest: &[u16],
-    entries: &[u64],
-    records: &[u64],
-    results: &[u64],
-) -> io::Result<()> {
-    print::before(rt, stepped, newest)?;
-    show_entries(rt, asked, entries)?;
-    print::behind(rt, records, results)
-}
-
-// A call that is lent the version table.
-fn with(
-    rt: &impl Print,
-    state: State,
-    asked: Asked,
-    log: &[u8],
-    newest: &mut [u16],
-    entries: &[u64],
-    records: &mut [u64],
-    results: &mut [u64],
-) -> io::Result<()> {
-    if asked.length == 256 {
-        tables::exact(rt, state, asked, log, newest, entries, records, results)
-    } else {
-        tables::long(rt, state, asked, log, newest, entries, records, results)
+// "0 make, 1 open, 2 place, 3 claim, 4 advance, 5 seal", and the four numbers that are given with it.
+impl From<[u64; 5]> for Call {
+    fn from(numbers: [u64; 5]) -> Call {
+        match numbers {
+            [0, records, partitions, workers, start] => Call::Make {
+                records: records as usize,
+                partitions: partitions as usize,
+                workers: workers as usize,
+                start: Position(start),
+            },
+            [1, ..] => Call::Open,
+            [2, partition, ..] => Call::Place(partition as usize),
+            [3, worker, transaction, ..] => Call::Claim {
+                worker: worker as usize,
+                transaction: transaction as usize,
+            },
+            [4, worker, ..] => Call::Advance(worker as usize),
+            _ => Call::Seal,
+        }
     }
 }
 
-pub(crate) fn call(
-    rt: &impl Print,
-    state: State,
-    asked: Asked,
-    log: &[u8],
-    newest: &mut [u16],
-    entries: &[u64],
-    records: &mut [u64],
-    results: &mut [u64],
-) -> io::Result<()> {
-    if asked.call == 0 {
-        without(rt, make(asked), asked, newest, entries, records, results)
-    } else {
-        if asked.call == 3 {
-            without(
-                rt,
-                state.claim(asked.first, asked.second),
-                asked,
-                newest,
-                entries,
+impl Call {
+    // The call of the next case; None where the file has no case left.
+    pub fn next(file: &mut impl Read) -> io::Result<Option<Call>> {
+        let Some(kind) = next_if_any(file)? else {
+            return Ok(None);
+        };
+        let [first, second, third, fourth] = next_all::<4>(file)?;
+        Ok(Some(Call::from([kind, first, second, third, fourth])))
+    }
+
+    pub fn is_lent_versions(self) -> bool {
+        !matches!(self, Call::Make { .. } | Call::Claim { .. })
+    }
+
+    // Makes the call on this state, and lends it what it asks for.
+    pub fn step(self, state: State, log: &[u8], tables: &mut Tables<'_>) -> Stepped {
+        // One by one: the borrow checker does not cover a pattern over the four.
+        let newest = &mut *tables.newest;
+        let versions = &mut *tables.versions;
+        let records = &mut *tables.records;
+        let results = &mut *tables.results;
+        match self {
+            Call::Make {
                 records,
-                results,
-            )
-        } else {
-            with(rt, state, asked, log, newest, entries, records, results)
+                partitions,
+                workers,
+                start,
+            } => stepped(State::make(records, partitions, workers, start)),
+            Call::Open => state.open(log, newest, versions, results),
+            Call::Place(partition) => state.place(partition, log, newest, versions),
+            Call::Claim {
+                worker,
+                transaction,
+            } => state.claim(worker, transaction),
+            Call::Advance(worker) => state.advance(worker, log, records, newest, versions, results),
+            Call::Seal => state.seal(records, newest, versions),
         }
     }
 }
