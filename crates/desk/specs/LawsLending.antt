@@ -1,9 +1,10 @@
 -- A session whose transactions and workers are lent: it goes as the session that they make together.
-use Rattle.std.specs.Prelude.{ℕ, ◌*◌, Bool, true, false, not, cond, List, ◌≡◌, refl, T, length, Ok, Err}
+use Rattle.std.specs.Prelude.{ℕ, ◌*◌, Bool, true, false, not, List, ◌≡◌, refl, T, length}
+use Rattle.std.specs.Prelude.{Option, Some, None, Result, Ok, Err}
 use Rattle.std.proofs.Common.{sym, ap, ◌∙◌}
 use Rattle.versions.specs.declared.Version.{Version}
 use Rattle.versions.specs.Seal.{newest_sound_of}
-use Rattle.engine.specs.Advance.{advance_verdict, move_of, answered_by, advanced_when, advance_of}
+use Rattle.engine.specs.Advance.{advance_verdict, move_of, with_left, carried_out, advanced_when, advance_of}
 use Rattle.engine.specs.Answers.{refuse_if, accept}
 use Rattle.engine.specs.Claim.{no_such_claim, after_claim, claim_of}
 use Rattle.engine.specs.Lent.{joined, numbers_of}
@@ -12,11 +13,13 @@ use Rattle.engine.specs.Place.{place_verdict, placed_when, place_of}
 use Rattle.engine.specs.Range.{worker_at, row_at, out_of_range}
 use Rattle.engine.specs.Rows.{is_unprocessed}
 use Rattle.engine.specs.Seal.{seal_verdict, sealed_by, seal_of}
-use Rattle.engine.specs.States.{with_row, with_worker}
+use Rattle.engine.specs.States.{with_worker}
 use Rattle.engine.specs.Workers.{is_idle}
 use Rattle.engine.specs.declared.Answer.{Answer}
 use Rattle.engine.specs.declared.Answer.TheVariants.{Accepted, Waits, Refused}
 use Rattle.engine.specs.declared.Row.{Row}
+use Rattle.engine.specs.declared.moves.Move.{Move}
+use Rattle.terms.specs.declared.refusal.Refused.{Refused as Why}
 use Rattle.engine.specs.declared.State.{State}
 use Rattle.engine.specs.declared.Stepped.{Stepped}
 use Rattle.engine.specs.declared.Worker.{Worker}
@@ -135,13 +138,14 @@ claim_numbers s w i =
     keeps_numbers s w i (out_of_range s) (not_running s) (no_such_claim s w i) (not (is_idle (worker_at s w)))
     (not (is_unprocessed (row_at s i)))
 
-moved_numbers : (s : State) (w i : ℕ) (answer : Answer) (leaves : Bool) (row : Row) (worker : Worker)
-    → numbers_of (answered_by answer s (with_worker (cond leaves (with_row s i row) s) w worker)).state ≡ numbers_of s
-moved_numbers s w i Accepted true row worker = refl
-moved_numbers s w i Accepted false row worker = refl
-moved_numbers s w i (Waits position) true row worker = refl
-moved_numbers s w i (Waits position) false row worker = refl
-moved_numbers s w i (Refused refusal place) leaves row worker = refl
+moved_numbers : (s : State) (w i : ℕ) (move : Result Move Why) (versions : List Version) (results : List ℕ)
+    → numbers_of (carried_out move s w i versions results).stepped.state ≡ numbers_of s
+moved_numbers s w i (Ok move) versions results = left move.left
+  where
+    left : (row : Option Row) → numbers_of (with_worker (with_left s i row) w move.worker) ≡ numbers_of s
+    left None = refl
+    left (Some row) = refl
+moved_numbers s w i (Err why) versions results = refl
 
 advance_numbers : (s : State) (w : ℕ) (log records newest : List ℕ) (versions : List Version) (results : List ℕ)
     → numbers_of (advance_of s w log records newest versions results).stepped.state ≡ numbers_of s
@@ -152,10 +156,8 @@ advance_numbers s w log records newest versions results =
     go : (v : Verdict)
         → numbers_of (advanced_when v s w log records newest versions results).stepped.state ≡ numbers_of s
     go (Ok tt) =
-        moved_numbers s w (worker_at s w).transaction (move_of s (worker_at s w) log records newest versions).answer
-        (move_of s (worker_at s w) log records newest versions).leaves
-        (move_of s (worker_at s w) log records newest versions).row
-        (move_of s (worker_at s w) log records newest versions).worker
+        moved_numbers s w (worker_at s w).transaction (move_of s (worker_at s w) log records newest versions) versions
+        results
     go (Err why) = refl
 
 place_keeps : (s : State) (p : ℕ) (log newest : List ℕ) (versions : List Version)
