@@ -1,6 +1,7 @@
 -- An advance by a worker that reads, in a state that the engine reaches: it reads, waits or decides as the machine
 -- does.
-use Rattle.std.specs.Prelude.{ℕ, suc, ◌+◌, ◌*◌, ◌≤◌, ◌<◌, true, ◌≡◌, List, [], ◌∷◌, ◌++◌, length, get_or, set}
+use Rattle.std.specs.Prelude.{ℕ, suc, ◌+◌, ◌*◌, ◌≤◌, ◌<◌, ◌≡◌, List, [], ◌∷◌, ◌++◌, length, get_or, set}
+use Rattle.std.specs.Prelude.{Some, None, Ok}
 use Rattle.std.proofs.Math.Option.{some}
 use Rattle.std.proofs.Common.{sym, ◌∙◌, subst, add-one, arith, length-append}
 use Rattle.std.proofs.Math.Path.{ap}
@@ -19,7 +20,6 @@ use Rattle.engine.specs.Range.{worker_at}
 use Rattle.engine.specs.Rows.{row}
 use Rattle.engine.specs.States.{with_row, with_worker}
 use Rattle.engine.specs.Workers.{idle_worker, one_more, with_value, count_in, with_decision}
-use Rattle.engine.specs.declared.Answer.TheVariants.{Accepted}
 use Rattle.engine.specs.declared.Phase.TheVariants.{Reading}
 use Rattle.engine.specs.declared.Progress.TheVariants.{Unprocessed, Complete}
 use Rattle.engine.specs.declared.State.{State}
@@ -141,7 +141,7 @@ module _ (B : order.Batch ℕ Outcome) (o : State) (log stored : List ℕ) (d : 
   same_outcome = (d.decides_as i values inside).outcome_is
 
   -- the act is to decide, on the values read
-  decides_next : B.read_count i ≤ k → move B o log stored d e m stands sound over w i there held ≡ decides worker t
+  decides_next : B.read_count i ≤ k → move B o log stored d e m stands sound over w i there held ≡ Ok (decides worker t)
   unfolding act_of
   decides_next none =
       let act : act_of worker t ≡ Decide =
@@ -161,8 +161,8 @@ module _ (B : order.Batch ℕ Outcome) (o : State) (log stored : List ℕ) (d : 
         after = executed m (machine.completed m.execution w i (B.decide i values).outcome values);
         replies =
             moves B o log stored d e m stands sound over w i there held
-            (unfilled Accepted idle_worker true (row (Complete (B.decide i values).outcome)) true (in_four values))
-            (decides_next none ∙ completes);
+            (unfilled None idle_worker (Some (row (Complete (B.decide i values).outcome))) (Some (in_four values)))
+            (decides_next none ∙ ap Ok completes);
         is_step = machine.executes over (machine.decides_last w_there work_is none no_writes);
         stands =
             completed_stands o stored d.numbers e m stands w i there inside (B.decide i values).outcome values;
@@ -175,7 +175,7 @@ module _ (B : order.Batch ℕ Outcome) (o : State) (log stored : List ℕ) (d : 
       counted = ap count_in is.phase_is ∙ sym is.count_is
 
       completes : decides worker t
-          ≡ unfilled Accepted idle_worker true (row (Complete (B.decide i values).outcome)) true (in_four values)
+          ≡ unfilled None idle_worker (Some (row (Complete (B.decide i values).outcome))) (Some (in_four values))
       completes =
           rw (
             eq-eqb t.writecount 0 no_count,
@@ -197,7 +197,7 @@ module _ (B : order.Batch ℕ Outcome) (o : State) (log stored : List ℕ) (d : 
             (machine.decided i (machine.decided_on values (B.decide i values))));
         replies =
             moves B o log stored d e m stands sound over w i there held (goes_on (with_decision worker decision))
-            (decides_next none ∙ goes_on_lem);
+            (decides_next none ∙ ap Ok goes_on_lem);
         is_step = machine.executes over (machine.decides w_there work_is none some_write);
         stands =
             work_stands o stored d.numbers e m stands w (with_decision worker decision)

@@ -1,6 +1,6 @@
 -- An advance by a worker that has decided, in a state that the engine reaches: it carries, waits or fills as the
 -- machine does.
-use Rattle.std.specs.Prelude.{ℕ, suc, ◌*◌, ◌≤◌, ◌<◌, true, ◌≡◌, List, length, get_or, set}
+use Rattle.std.specs.Prelude.{ℕ, suc, ◌*◌, ◌≤◌, ◌<◌, ◌≡◌, List, Some, None, Ok, length, get_or, set}
 use Rattle.std.proofs.Math.Option.{some}
 use Rattle.std.proofs.Common.{sym, ◌∙◌, subst, arith, length-set, get_or-set_same, get_or-set_other}
 use Rattle.std.proofs.Math.Path.{ap}
@@ -18,7 +18,6 @@ use Rattle.engine.specs.Range.{worker_at}
 use Rattle.engine.specs.Rows.{row}
 use Rattle.engine.specs.States.{with_row, with_worker}
 use Rattle.engine.specs.Workers.{idle_worker, one_more, carried_on, with_carry, with_phase}
-use Rattle.engine.specs.declared.Answer.TheVariants.{Accepted}
 use Rattle.engine.specs.declared.Phase.TheVariants.{Decided}
 use Rattle.engine.specs.declared.Progress.TheVariants.{Unprocessed, Complete}
 use Rattle.engine.specs.declared.State.{State}
@@ -203,10 +202,10 @@ module _ (B : order.Batch ℕ Outcome) (o : State) (log stored : List ℕ) (d : 
   -- the act is to fill
   fills_next : x.carries ≡ table.marks_below x.carried (B.write_count i)
       → move B o log stored d e m stands sound over w i there held
-      ≡ with_fill
+      ≡ Ok (with_fill
       (after_fill worker x.outcome (length x.values_read) x.carries x.fills t.writecount)
       (slot_of i x.fills)
-      (x.contents x.fills)
+      (x.contents x.fills))
   unfolding act_of
   fills_next all =
       let act : act_of worker t ≡ Fill x.fills =
@@ -215,8 +214,8 @@ module _ (B : order.Batch ℕ Outcome) (o : State) (log stored : List ℕ) (d : 
       after_fill worker x.outcome (length x.values_read) x.carries x.fills t.writecount in
       ap (λ a. move_by a worker t (look_of e.state i e.records e.newest e.versions)) act
       ∙ ap (λ phase. fills_in phase worker t.writecount x.fills) is.phase_is
-      ∙ ap (λ k. with_fill after (slot_of k x.fills) (get_or worker.contents x.fills 0)) is.transaction_is
-      ∙ ap (with_fill after (slot_of i x.fills)) (is.contents_are x.fills)
+      ∙ ap (λ k. Ok (with_fill after (slot_of k x.fills) (get_or worker.contents x.fills 0))) is.transaction_is
+      ∙ ap (λ c. Ok (with_fill after (slot_of i x.fills) c)) (is.contents_are x.fills)
 
   fills_makes : x.carries ≡ table.marks_below x.carried (B.write_count i) → suc x.fills < B.write_count i
       → Makes B o log stored e m (machine.act (machine.advance w))
@@ -232,7 +231,7 @@ module _ (B : order.Batch ℕ Outcome) (o : State) (log stored : List ℕ) (d : 
         replies =
             moves B o log stored d e m stands sound over w i there held
             (with_fill (goes_on onward) (slot_of i x.fills) (x.contents x.fills))
-            (fills_next all ∙ ap (λ move. with_fill move (slot_of i x.fills) (x.contents x.fills)) goes_on_lem);
+            (fills_next all ∙ ap (λ move. Ok (with_fill move (slot_of i x.fills) (x.contents x.fills))) goes_on_lem);
         is_step = machine.executes over (machine.fills w_there work_is all more);
         stands =
             work_stands o stored d.numbers filled produced filled_stands w onward
@@ -275,9 +274,9 @@ module _ (B : order.Batch ℕ Outcome) (o : State) (log stored : List ℕ) (d : 
         replies =
             moves B o log stored d e m stands sound over w i there held
             (with_fill
-            (unfilled Accepted idle_worker true (row (Complete x.outcome)) true (in_four x.values_read))
+            (unfilled None idle_worker (Some (row (Complete x.outcome))) (Some (in_four x.values_read)))
             (slot_of i x.fills) (x.contents x.fills))
-            (fills_next all ∙ ap (λ move. with_fill move (slot_of i x.fills) (x.contents x.fills)) completes);
+            (fills_next all ∙ ap (λ move. Ok (with_fill move (slot_of i x.fills) (x.contents x.fills))) completes);
         is_step = machine.executes over (machine.fills_last w_there work_is all last);
         stands =
             completed_stands o stored d.numbers filled produced filled_stands w i there inside x.outcome
@@ -288,7 +287,7 @@ module _ (B : order.Batch ℕ Outcome) (o : State) (log stored : List ℕ) (d : 
       few_values = omega (arith, ap length right.values_are, values_length B i, d.proper.few_reads i)
 
       completes : after_fill worker x.outcome (length x.values_read) x.carries x.fills t.writecount
-          ≡ unfilled Accepted idle_worker true (row (Complete x.outcome)) true (in_four x.values_read)
+          ≡ unfilled None idle_worker (Some (row (Complete x.outcome))) (Some (in_four x.values_read))
       completes =
           rw (
             le-leb t.writecount (one_more x.fills)

@@ -1,11 +1,12 @@
 -- The records are lent for advances and for the seal, not for the opening. Where there are not N of them, no seal is
 -- accepted.
-use Rattle.std.specs.Prelude.{ℕ, Bool, true, false, not, cond, ◌≡◌, refl, List, [], ◌∷◌, length, Ok, Err}
+use Rattle.std.specs.Prelude.{ℕ, Bool, true, false, not, ◌≡◌, refl, List, [], ◌∷◌, length}
+use Rattle.std.specs.Prelude.{Option, Some, None, Result, Ok, Err}
 use Rattle.std.proofs.Common.{◌∙◌, ne_eqb}
 use Rattle.terms.specs.declared.refusal.Refusal.TheVariants.{WrongMoment, NoSuchParty, WorkerBusyOrIdle}
 use Rattle.terms.specs.declared.refusal.Refusal.TheVariants.{NotUnprocessed, StateOutOfRange}
 use Rattle.versions.specs.declared.Version.{Version}
-use Rattle.engine.specs.Advance.{moved_state, answered_by, move_of, advance_verdict, advanced_when, advance_of}
+use Rattle.engine.specs.Advance.{advance_verdict, move_of, with_left, carried_out, advanced_when, advance_of}
 use Rattle.engine.specs.Answers.{accept, is_refused, refuse_if}
 use Rattle.engine.specs.Claim.{no_such_claim, after_claim, claim_of}
 use Rattle.engine.specs.Moment.{not_running}
@@ -13,13 +14,12 @@ use Rattle.engine.specs.Place.{place_verdict, placed_when, place_of}
 use Rattle.engine.specs.Range.{row_at, worker_at, out_of_range}
 use Rattle.engine.specs.Rows.{is_unprocessed}
 use Rattle.engine.specs.Seal.{seal_verdict, seal_of}
-use Rattle.engine.specs.States.{with_row}
 use Rattle.engine.specs.Workers.{is_idle}
-use Rattle.engine.specs.declared.Answer.{Answer}
-use Rattle.engine.specs.declared.Answer.TheVariants.{Accepted, Waits, Refused}
 use Rattle.engine.specs.declared.Row.{Row}
 use Rattle.engine.specs.declared.State.{State}
 use Rattle.engine.specs.declared.Stepped.{Stepped}
+use Rattle.engine.specs.declared.moves.Move.{Move}
+use Rattle.terms.specs.declared.refusal.Refused.{Refused}
 use Rattle.ordered.specs.Keeping.{refused_keeps}
 use Rattle.engine.specs.Running.{Engine, Offer, place, claim, advance, seal, offered, seal_accepted}
 use Rattle.terms.specs.Refusals.{Verdict}
@@ -63,23 +63,19 @@ unfolding advance_of
 advance_count s w log records newest versions results =
     go (advance_verdict s w log (length records) (length newest) (length versions) (length results))
   where
-    moved : (leaves : Bool) (i : ℕ) (x : Row) → (cond leaves (with_row s i x) s).records ≡ s.records
-    moved true i x = refl
-    moved false i x = refl
+    left : (row : Option Row) (i : ℕ) → (with_left s i row).records ≡ s.records
+    left None i = refl
+    left (Some row) i = refl
 
-    answered : (answer : Answer) (after : State) → after.records ≡ s.records
-        → (answered_by answer s after).state.records ≡ s.records
-    answered Accepted after same = same
-    answered (Waits position) after same = same
-    answered (Refused refusal at) after same = refl
+    carried : (move : Result Move Refused) (i : ℕ)
+        → (carried_out move s w i versions results).stepped.state.records ≡ s.records
+    carried (Ok move) i = left move.left i
+    carried (Err why) i = refl
 
     go : (verdict : Verdict)
         → (advanced_when verdict s w log records newest versions results).stepped.state.records ≡ s.records
     go (Err why) = refl
-    go (Ok tt) =
-        let move = move_of s (worker_at s w) log records newest versions in
-        answered move.answer (moved_state s w (worker_at s w).transaction move)
-        (moved move.leaves (worker_at s w).transaction move.row)
+    go (Ok tt) = carried (move_of s (worker_at s w) log records newest versions) (worker_at s w).transaction
 
 -- a seal that is lent another number of records is refused, by 1
 seal_wrong : (s : State) (records newest : List ℕ) (versions : List Version) → (length records ≡ s.records → ⊥)

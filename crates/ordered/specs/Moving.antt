@@ -2,7 +2,7 @@
 -- the worker's act comes to.
 use Prim.Native.Nat.{ℕ, ◌+◌, ◌*◌, ◌≤◌, ◌<◌}
 use Rattle.std.proofs.Math.Option.{some}
-use Rattle.std.specs.Prelude.{◌≡◌, length, get_or}
+use Rattle.std.specs.Prelude.{◌≡◌, Result, Ok, length, get_or}
 use Rattle.std.proofs.Math.Path.{refl}
 use Rattle.std.proofs.Common.{ap, ◌∙◌, arith}
 use mathlib.Core.List.{List}
@@ -18,6 +18,7 @@ use Rattle.engine.specs.Workers.{idle_worker}
 use Rattle.engine.specs.declared.Progress.TheVariants.{Unprocessed, Complete}
 use Rattle.engine.specs.declared.State.{State}
 use Rattle.engine.specs.declared.moves.Move.{Move}
+use Rattle.terms.specs.declared.refusal.Refused.{Refused}
 use Rattle.order.specs.Batch as order
 use Rattle.order.specs.Invariant as invariant
 use Rattle.order.specs.Machine as machine
@@ -101,7 +102,7 @@ module _ (B : order.Batch ℕ Outcome) (o : State) (log stored : List ℕ) (d : 
       (stands.crew_are w there)).1
 
   -- the move of the worker's act
-  abbrev pub move : Move
+  abbrev pub move : Result Move Refused
   move =
       move_by (act_of (worker_at e.state w) (meaning_at o log i)) (worker_at e.state w) (meaning_at o log i)
       (look_of e.state i e.records e.newest e.versions)
@@ -116,9 +117,9 @@ module _ (B : order.Batch ℕ Outcome) (o : State) (log stored : List ℕ) (d : 
       (look_of e.state i e.records e.newest e.versions)) (meaning_same B o log stored d e m stands sound i)
 
   -- the move is carried out
-  pub moves : (x : Move) → move ≡ x
+  pub moves : (x : Move) → move ≡ Ok x
       → offer_to log e (store.step (machine.act (machine.advance w)))
-      ≡ reply_to (running.after_advance e (carried_out x e.state w i e.versions e.results))
+      ≡ reply_to (running.after_advance e (carried_out (Ok x) e.state w i e.versions e.results))
   unfolding offered advance_of
   moves x is =
       let accepted = advance_accepted B o log stored d e m stands sound w i over there below held in
