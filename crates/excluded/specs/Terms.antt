@@ -1,7 +1,7 @@
 -- Wrong answers of the functions of `terms`, beside those that the gate tries as edits (crates/terms/must-fail). Edits
 -- that give these stand in tools/edits/terms.
-use Rattle.std.specs.Prelude.{ℕ, true, false, List, [], ◌∷◌, refl, eqb, Err}
-use Rattle.terms.specs.Refusals.{number_of, place_of, refused, verdict_number, verdict_place, Verdict}
+use Rattle.std.specs.Prelude.{ℕ, true, false, List, [], ◌∷◌, refl, eqb, Ok, Err}
+use Rattle.terms.specs.Refusals.{number_of, place_of, refused, refuse_if, verdict_number, verdict_place, Verdict}
 use Rattle.terms.specs.Reserved.{no_slot, no_end}
 use Rattle.terms.specs.declared.refusal.Place.{Place}
 use Rattle.terms.specs.declared.refusal.Refusal.{Refusal}
@@ -32,9 +32,12 @@ rows =
     row number (number_of WrongLength) 1
     -- Place::of: 0 for every refusal
     ∷ row place_parts (place_of NotAscending 3) (at 0)
-    -- Refusal::at, and refuse_if where the fault is there: another refusal; the place of transaction 0
+    -- Refusal::at: another refusal; the place of transaction 0
     ∷ row verdict_parts (refused NotAscending 3) (refusing Malformed (at 3))
     ∷ row verdict_parts (refused NotAscending 3) (refusing NotAscending (at 0))
+    -- refuse_if: accepted where the fault is there; refused where it is not
+    ∷ row verdict_parts (refuse_if true NotAscending 3 (Ok tt)) (Ok tt)
+    ∷ row verdict_parts (refuse_if false NotAscending 3 (Ok tt)) six_at_three
     -- verdict_number: 4 for every refusal; 0 for every refusal
     ∷ row number (verdict_number six_at_three) 4
     ∷ row number (verdict_number six_at_three) 0
