@@ -7,7 +7,7 @@ ghost use Rattle.engine.specs.Moment.{row_unfinished};
 ghost use Rattle.engine.specs.Seal.{closed, seal_of};
 
 use crate::lent::entries::row_at;
-use crate::lent::{Counted, Numbers, range};
+use crate::lent::{Counted, Numbers};
 use crate::{Answer, Row, Worker};
 use terms::{BatchNumber, NO_SLOT, Position, Refusal, Refused, refuse_if};
 use versions::{Version, clear, collect, newest_sound};
@@ -38,8 +38,8 @@ pub(crate) fn consider_seal(
 {
     let wrong_length = numbers.is_wrong_for_seal(records.len(), newest.len(), versions.len());
     refuse_if(wrong_length, Refusal::WrongParameter, 0)?;
-    let wrong = range::are_wrong(rows, crew, numbers);
-    refuse_if(numbers.is_out_of_range(wrong), Refusal::StateOutOfRange, 0)?;
+    let out_of_range = numbers.is_out_of_range(rows, crew);
+    refuse_if(out_of_range, Refusal::StateOutOfRange, 0)?;
     let unfinished = has_unfinished(rows, numbers);
     refuse_if((numbers.size == 0) | unfinished, Refusal::WrongMoment, 0)?;
     let sound = newest_sound(versions, newest, numbers.slots());
