@@ -14,7 +14,7 @@ pub use entry::{empty, ended, filled, linked};
 pub use plan::{Fill, Link};
 pub use seal::{collect, newest_sound};
 pub use step::{fill, link};
-pub use table::{clear, entry_at, put_at};
+pub use table::{clear, entry_at, put, put_at};
 
 // "Each entry has begin, end, previous slot, contents and a produced mark."
 #[derive(Clone, Copy, Debug, PartialEq, Eq)]
