@@ -12,15 +12,11 @@ use crate::{Answer, Row, Worker};
 use terms::{BatchNumber, NO_SLOT, Position, Refusal, Refused, refuse_if};
 use versions::{Version, clear, collect, newest_sound};
 
+// A transaction of the batch past the lent ones is unfinished too, and so they are asked by their numbers.
 pub(crate) fn has_unfinished(rows: &[Row], numbers: Numbers) -> bool
     ensures { result ≡ some_below 64 (row_unfinished (joined numbers rows.now [])) }
 {
-    for i in 0..numbers.transactions() {
-        if !row_at(rows, i).is_complete() {
-            return true;
-        }
-    }
-    false
+    (0..numbers.transactions()).any(|i| !row_at(rows, i).is_complete())
 }
 
 // "The seal checks 1, 14, 9, 15." Where none refuses, "the next position rises by n, the batch number by 1, and n and
