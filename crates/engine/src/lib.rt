@@ -35,8 +35,8 @@ pub struct Row {
 }
 
 // "A worker is idle; or holds a transaction and the values read so far; or, once decided, also outcome, new contents,
-// carry marks and how many carries and fills are done." How far it is, with the counts that it then has: three cases, and
-// so neither an Option nor a Result (d).
+// carry marks and how many carries and fills are done." How far it is, with the counts that it then has: three cases,
+// and so neither an Option nor a Result (d).
 #[derive(Clone, Copy)]
 pub enum Phase {
     Idle,
