@@ -1,6 +1,6 @@
 // The steps on a state whose transactions and workers are lent, so that a step copies no more than it changes. They,
 // the numbers and the tables are lent side by side (a): `place`, `claim`, `advance` and `seal` promise them so, each by
-// its name.
+// its name, and what they call takes them so.
 pub(crate) mod advancing;
 pub(crate) mod claiming;
 pub(crate) mod entries;
