@@ -1,20 +1,11 @@
 // What a run tells its caller besides the records and the results: what became of each transaction, and the counts.
-ghost use Rattle.std.specs.Prelude.{◌≡◌, set};
+ghost use Rattle.std.specs.Prelude.{◌≡◌};
 ghost use Rattle.capi.specs.Report.{outcome_byte, outcomes_of, counts_of};
 
 use counters::Outcome;
 use desk::Tally;
 use engine::{Progress, Row, State};
-
-// Place k takes a value; past the end nothing changes. Not by `get_mut` (c): of what is written through its answer nothing
-// is known of the table.
-fn put<T: Copy>(table: &mut [T], k: usize, value: T)
-    ensures { table.new ≡ set table.old k value }
-{
-    if k < table.len() {
-        table[k] = value;
-    }
-}
+use versions::put;
 
 // What became of a transaction, as `uxoladun_run` numbers it for C (a).
 fn outcome_byte(row: Row) -> u8

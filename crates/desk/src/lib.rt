@@ -33,7 +33,8 @@ pub struct Line {
     pub length: usize,
 }
 
-// The engine's state, the three counts of the last line, and whether a seal was accepted.
+// The engine's state, the three counts of the last line, and whether a seal was accepted: a mark beside the counts (a),
+// since "Steps after an accepted seal are still offered".
 #[derive(Clone, Copy)]
 pub struct Tally {
     pub state: State,

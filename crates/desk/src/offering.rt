@@ -53,7 +53,8 @@ fn offer(
     }
 }
 
-// Offers the whole steps in the first `bytes` bytes of a piece of their file, one after the other.
+// Offers the whole steps in the first `bytes` bytes of a piece of their file, one after the other, by their numbers
+// (a): the definition, `run_of`, and `step_at` name step k.
 pub fn offer_all(
     mut tally: Tally,
     piece: &[u8],

@@ -41,12 +41,7 @@ fn four_at(results: &[u64], place: usize) -> [u64; 4]
     requires { place < 256 }
     ensures { result ≡ four_at results.now place }
 {
-    [
-        number_at(results, place),
-        number_at(results, place + 1),
-        number_at(results, place + 2),
-        number_at(results, place + 3),
-    ]
+    std::array::from_fn(|k| number_at(results, place + k))
 }
 
 fn outcome_of(row: Row) -> Outcome

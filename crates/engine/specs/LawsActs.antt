@@ -1,11 +1,9 @@
 -- Laws of a worker's next act.
-use Rattle.std.specs.Prelude.{ℕ, zero, suc, ◌+◌, Bool, true, false, ◌&&◌, cond, eqb}
-use Rattle.std.specs.Prelude.{List, [], ◌∷◌, ◌≡◌, refl, length, map}
-use Rattle.std.specs.List.{filter, zip, range_with_len, slice_get}
-use Rattle.std.specs.Option.{unwrap_or}
-use Rattle.std.proofs.Common.{arith, ne_eqb}
-use Prim.Native.Nat.compare
-use Rattle.engine.specs.Acts.{one, marks_of, next_carried}
+use Rattle.std.specs.Prelude.{ℕ, zero, suc, ◌+◌, ◌<◌, Bool, true, false, cond}
+use Rattle.std.specs.Prelude.{List, [], ◌∷◌, ◌≡◌, refl, length}
+use Rattle.std.specs.List.{filter}
+use Rattle.std.proofs.Common.{arith, add-one, ne_eqb}
+use Rattle.engine.specs.Acts.{one, mark_at, marks_below, marks_of, next_is, next_carried}
 
 abbrev marked : Bool → Bool
 marked mark = mark
@@ -32,48 +30,44 @@ marks_counted (a ∷ b ∷ c ∷ d ∷ []) four =
     )
 marks_counted (a ∷ b ∷ c ∷ d ∷ e ∷ rest) four = absurd (omega (arith, four))
 
--- ---- the next carried write is found by its mark
-abbrev pub marked_from : ℕ → List Bool → List ℕ
-marked_from j marks = map (λ p. p.0) (filter (λ p. p.1) (zip (range_with_len j 4) marks))
+-- ---- the next carried write is looked for write after write
+-- what it is where none below write j is it
+abbrev pub found_from : List Bool → ℕ → ℕ → ℕ
+found_from carried carries zero = next_carried carried carries
+found_from carried carries (suc zero) =
+    cond (next_is carried carries 1) 1 (cond (next_is carried carries 2) 2 3)
+found_from carried carries (suc (suc zero)) = cond (next_is carried carries 2) 2 3
+found_from carried carries (suc (suc (suc j))) = 3
 
-abbrev pub place_or_last : List ℕ → ℕ → ℕ
-place_or_last places k = unwrap_or (slice_get places k) 3
+pub found_here : (carried : List Bool) (carries j : ℕ) → j < 4 → next_is carried carries j ≡ true
+    → found_from carried carries j ≡ j
+found_here carried carries zero below found = rw found refl
+found_here carried carries (suc zero) below found = rw found refl
+found_here carried carries (suc (suc zero)) below found = rw found refl
+found_here carried carries (suc (suc (suc zero))) below found = refl
+found_here carried carries (suc (suc (suc (suc j)))) below found = absurd (omega (arith, below))
 
-not_yet : (k : ℕ) → eqb 0 (suc k) ≡ false
-not_yet k = ne_eqb 0 (suc k) (λ same. absurd (omega (arith, same)))
+pub found_later : (carried : List Bool) (carries j : ℕ) → next_is carried carries j ≡ false
+    → found_from carried carries j ≡ found_from carried carries (suc j)
+found_later carried carries zero other = rw other refl
+found_later carried carries (suc zero) other = rw other refl
+found_later carried carries (suc (suc zero)) other = rw other refl
+found_later carried carries (suc (suc (suc j))) other = refl
 
-one_later : (n k : ℕ) → eqb (suc n) (suc k) ≡ eqb n k
-one_later n k = rw (compare.suc-suc n k) refl
+-- one write more is looked at: it has no mark,
+pub unmarked_on : (carried : List Bool) (carries j : ℕ) → mark_at carried j ≡ false
+    → (marks_below carried j ≡ marks_below carried (j + 1))
+    × (found_from carried carries j ≡ found_from carried carries (j + 1))
+unmarked_on carried carries j none =
+    rw (add-one j) (rw none (omega arith), found_later carried carries j (rw none refl))
 
-from_third : (d : Bool) (k : ℕ) → place_or_last (marked_from 3 (d ∷ [])) k ≡ 3
-from_third false k = refl
-from_third true zero = refl
-from_third true (suc k) = refl
-
-from_second : (c d : Bool) (k : ℕ) → place_or_last (marked_from 2 (c ∷ d ∷ [])) k ≡ cond (c && eqb 0 k) 2 3
-from_second false d k = from_third d k
-from_second true d zero = refl
-from_second true d (suc k) = rw (not_yet k) (from_third d k)
-
-from_first : (b c d : Bool) (k : ℕ) → place_or_last (marked_from 1 (b ∷ c ∷ d ∷ [])) k
-    ≡ cond (b && eqb 0 k) 1 (cond (c && eqb (one b) k) 2 3)
-from_first false c d k = from_second c d k
-from_first true c d zero = refl
-from_first true c d (suc k) = rw (not_yet k, one_later 0 k) (from_second c d k)
-
-from_start : (a b c d : Bool) (k : ℕ)
-    → place_or_last (marked_from 0 (a ∷ b ∷ c ∷ d ∷ [])) k ≡ next_carried (a ∷ b ∷ c ∷ d ∷ []) k
-from_start false false c d k = from_first false c d k
-from_start false true c d k = from_first true c d k
-from_start true b c d zero = refl
-from_start true false c d (suc k) = rw (not_yet k, one_later 0 k) (from_first false c d k)
-from_start true true c d (suc k) = rw (not_yet k, one_later 0 k, one_later 1 k) (from_first true c d k)
-
-pub next_found : (carried : List Bool) (k : ℕ) → length carried ≡ 4
-    → place_or_last (marked_from 0 carried) k ≡ next_carried carried k
-next_found [] k four = absurd (omega (arith, four))
-next_found (a ∷ []) k four = absurd (omega (arith, four))
-next_found (a ∷ b ∷ []) k four = absurd (omega (arith, four))
-next_found (a ∷ b ∷ c ∷ []) k four = absurd (omega (arith, four))
-next_found (a ∷ b ∷ c ∷ d ∷ []) k four = from_start a b c d k
-next_found (a ∷ b ∷ c ∷ d ∷ e ∷ rest) k four = absurd (omega (arith, four))
+-- or a mark, and another count below it than is asked
+pub marked_on : (carried : List Bool) (carries j : ℕ) → mark_at carried j ≡ true
+    → (marks_below carried j ≡ carries → ⊥)
+    → (marks_below carried j + 1 ≡ marks_below carried (j + 1))
+    × (found_from carried carries j ≡ found_from carried carries (j + 1))
+marked_on carried carries j some other =
+    rw (add-one j) (
+      rw some refl,
+      found_later carried carries j (rw (some, ne_eqb (marks_below carried j) carries other) refl),
+    )

@@ -1,12 +1,17 @@
 -- A test over the numbers below a bound, and the loops and chains that ask it.
 use Rattle.std.specs.Prelude.{ℕ, zero, suc, ◌+◌, ◌≤◌, ◌<◌, Bool, true, false, ◌||◌, ◌≡◌, refl}
 use Rattle.std.specs.Prelude.{List, length, get_or, take}
-use Rattle.std.specs.List.{enumerate_from, list_any}
+use Rattle.std.specs.List.{enumerate_from, list_any, range_with_len}
 use Rattle.std.proofs.Common.{ap, sym, ◌∙◌, subst, add-one, arith}
 use Rattle.std.proofs.Math.Decide.{dec_lt}
 use Rattle.std.proofs.lemmas.List.{take_all, get_or_past}
 use Rattle.std.proofs.lemmas.List.Folds.{list_any_more}
-use Rattle.std.proofs.lemmas.List.FromFn.{length-enumerate_from, get_or-enumerate_from}
+use Rattle.std.proofs.lemmas.List.FromFn.{
+  length-enumerate_from,
+  get_or-enumerate_from,
+  length-range_with_len,
+  get_or-range_with_len,
+}
 use Rattle.packed.specs.LawsForm.{not_left, not_right}
 use Rattle.engine.specs.Counting.{some_below}
 
@@ -100,25 +105,23 @@ any_entry test past bound xs many =
     (sym (take_all bound (enumerate_from 0 xs) (rw (length-enumerate_from 0 xs) (omega (arith, many)))))
     ∙ any_first test past bound xs (λ k more below. absurd (omega (arith, many, more, below)))
 
-or_true : (b : Bool) → (b || true) ≡ true
-or_true true = refl
-or_true false = refl
-
--- a loop that ends at the first number of which a test holds: it is found below the bound;
-pub found_below : (bound : ℕ) (test : ℕ → Bool) (k : ℕ) → k < bound → test k ≡ true → some_below bound test ≡ true
+-- ---- a chain that asks the numbers themselves
+any_ranged : (bound : ℕ) (test : ℕ → Bool) (k : ℕ) → k ≤ bound
+    → list_any test (take k (range_with_len 0 bound)) ≡ some_below k test
 unfolding some_below
-found_below zero test k below found = absurd (omega (arith, below))
-found_below (suc bound) test k below found = go (found_below bound test k) (dec_lt k bound)
-  where
-    go : (k < bound → test k ≡ true → some_below bound test ≡ true) → Dec (k < bound)
-        → (some_below bound test || test bound) ≡ true
-    go earlier (yes before) = rw (earlier before found) refl
-    go earlier (no last) =
-        let same : k ≡ bound = omega (arith, below) in
-        rw (rw same at found) (or_true (some_below bound test))
+any_ranged bound test zero most = refl
+any_ranged bound test (suc k) most =
+    let number : 0 + k ≡ k = omega arith in
+    ap (λ n. list_any test (take n (range_with_len 0 bound))) (sym (add-one k))
+    ∙ list_any_more test (range_with_len 0 bound) k 0 (rw (length-range_with_len 0 bound) (omega (arith, most)))
+    ∙ rw (
+      any_ranged bound test k (omega (arith, most)),
+      get_or-range_with_len 0 bound k 0 (omega (arith, most)),
+      number,
+    ) refl
 
--- or the test fails for one number more
-pub none_more : (test : ℕ → Bool) (k : ℕ) → some_below k test ≡ false → test k ≡ false
-    → some_below (k + 1) test ≡ false
-unfolding some_below
-none_more test k before this = rw (add-one k, before, this) refl
+pub any_below : (bound : ℕ) (test : ℕ → Bool) → list_any test (range_with_len 0 bound) ≡ some_below bound test
+any_below bound test =
+    ap (list_any test)
+    (sym (take_all bound (range_with_len 0 bound) (rw (length-range_with_len 0 bound) (omega arith))))
+    ∙ any_ranged bound test bound (omega arith)

@@ -75,19 +75,15 @@ numbers_alone : (numbers : Numbers) (rows : List Row) (crew : List Worker)
 unfolding numbers_wrong
 numbers_alone numbers rows crew = refl
 
--- 14, with what it says of the transactions and the workers
-abbrev pub out_of_range_by : Numbers → Bool → Bool
-out_of_range_by numbers wrong =
-    (numbers_wrong (joined numbers [] []) || some_below 8 (placed_wrong (joined numbers [] []))) || wrong
-
-or_joined : (a b c d : Bool) → ((a || b) || (c || d)) ≡ (a || b || c || d)
+or_joined : (a b c d : Bool) → (((a || b) || c) || d) ≡ (a || b || c || d)
 or_joined true b c d = refl
 or_joined false true c d = refl
 or_joined false false c d = refl
 
 pub range_told : (numbers : Numbers) (rows : List Row) (crew : List Worker)
-    → out_of_range_by numbers
-    (some_below 8 (worker_wrong (joined numbers rows crew)) || some_below 64 (row_wrong (joined numbers rows crew)))
+    → (((numbers_wrong (joined numbers [] []) || some_below 8 (placed_wrong (joined numbers [] [])))
+    || some_below 8 (worker_wrong (joined numbers rows crew)))
+    || some_below 64 (row_wrong (joined numbers rows crew)))
     ≡ out_of_range (joined numbers rows crew)
 unfolding out_of_range
 range_told numbers rows crew =

@@ -1,5 +1,5 @@
 -- Laws of advancing with lent transactions and workers: the way that the code goes.
-use Rattle.std.specs.Prelude.{ℕ, zero, suc, ◌*◌, Bool, true, false, ◌||◌, Result}
+use Rattle.std.specs.Prelude.{ℕ, zero, suc, ◌*◌, Bool, true, false, Result}
 use Rattle.std.specs.Prelude.{List, [], ◌∷◌, ◌≡◌, refl, leb, length, get_or}
 use Rattle.std.proofs.Common.{ap, ◌∙◌, arith, leb-false}
 use Rattle.terms.specs.Refusals.{refuse_if, Verdict}
@@ -15,16 +15,15 @@ use Rattle.terms.specs.declared.refusal.Refused.{Refused}
 use Rattle.versions.specs.declared.Version.{Version}
 use Rattle.engine.specs.Advance.{wrong_for_advance, work_fits}
 use Rattle.engine.specs.Advance.{advance_verdict, advance_of}
-use Rattle.engine.specs.Counting.{some_below}
 use Rattle.engine.specs.LawsAdvance.{aim_at, aim_when, move_when, answered, rows_by, crew_by, versions_by, results_by}
 use Rattle.engine.specs.LawsAdvance.{decided, advance_answer, advance_rows, advance_crew}
 use Rattle.engine.specs.LawsAdvance.{advance_versions, advance_results}
-use Rattle.engine.specs.LawsLent.{out_of_range_by, range_told, position_by, position_within}
+use Rattle.engine.specs.LawsLent.{position_by, position_within}
 use Rattle.engine.specs.LawsRange.{in_range, holds_below}
 use Rattle.engine.specs.Lent.{worker_of, joined}
 use Rattle.engine.specs.Moment.{not_running}
 use Rattle.engine.specs.Place.{position_of}
-use Rattle.engine.specs.Range.{no_worker, worker_at, worker_wrong, row_wrong, out_of_range}
+use Rattle.engine.specs.Range.{no_worker, worker_at, out_of_range}
 use Rattle.engine.specs.Tables.{not_of}
 use Rattle.engine.specs.Workers.{is_idle}
 use Rattle.engine.specs.declared.Row.{Row}
@@ -34,27 +33,37 @@ use Rattle.engine.specs.declared.advance.Aim.{Aim}
 use Rattle.engine.specs.declared.lent.Numbers.{Numbers}
 use Rattle.engine.specs.declared.moves.Move.{Move}
 
--- the checks, with what 14 says, and the worker
-abbrev pub verdict_by : Bool → State → ℕ → Worker → List ℕ → ℕ → ℕ → ℕ → ℕ → Verdict
-verdict_by out s w worker log records newest versions results =
-    refuse_if (wrong_for_advance s records newest versions results) WrongParameter 0
-    (refuse_if out StateOutOfRange 0
+-- the checks after 1, with what 14 says, and the worker
+abbrev pub verdict_by : Bool → State → ℕ → Worker → List ℕ → Verdict
+verdict_by out s w worker log =
+    refuse_if out StateOutOfRange 0
     (refuse_if (not_running s) WrongMoment 0
     (refuse_if (leb s.workers w) NoSuchParty 0
     (refuse_if (is_idle worker) WorkerBusyOrIdle 0
-    (refuse_if (not_of (length log) (88 * s.size)) WrongLength 0 (work_fits s worker log))))))
+    (refuse_if (not_of (length log) (88 * s.size)) WrongLength 0 (work_fits s worker log)))))
 
-abbrev pub aim_by : Bool → Numbers → ℕ → Worker → List ℕ → ℕ → ℕ → ℕ → ℕ → Result Aim Refused
-aim_by wrong numbers w worker log records newest versions results =
+-- what the worker aims at, where other checks come first
+abbrev pub aim_with : (Verdict → Verdict) → List Row → List Worker → Numbers → ℕ → List ℕ → Result Aim Refused
+aim_with first rows crew numbers w log =
+    let worker = worker_of crew w in
     aim_when
-    (verdict_by (out_of_range_by numbers wrong) (joined numbers [] []) w worker log records newest versions results)
+    (first (verdict_by (out_of_range (joined numbers rows crew)) (joined numbers [] []) w worker log))
     (aim_at (joined numbers [] []) worker log (position_by numbers worker.transaction))
 
-unfoldable pub turn_with : Bool → Numbers → ℕ → Worker → List ℕ → List ℕ → List ℕ → List Version → ℕ
+abbrev pub aim_by : List Row → List Worker → Numbers → ℕ → List ℕ → Result Aim Refused
+aim_by = aim_with (λ rest. rest)
+
+unfoldable pub turn_with : List Row → List Worker → Numbers → ℕ → List ℕ → List ℕ → List ℕ → List Version → ℕ
     → Result Move Refused
-turn_with wrong numbers w worker log records newest versions results =
-    move_when (aim_by wrong numbers w worker log (length records) (length newest) (length versions) results) records
-    newest versions
+turn_with rows crew numbers w log records newest versions results =
+    move_when
+    (aim_with
+    (refuse_if
+    (wrong_for_advance (joined numbers [] []) (length records) (length newest) (length versions) results)
+    WrongParameter
+    0)
+    rows crew numbers w log)
+    records newest versions
 
 -- ---- that is the definition
 module _ (numbers : Numbers) (rows : List Row) (crew : List Worker) (w : ℕ) (log records newest : List ℕ)
@@ -121,18 +130,16 @@ module _ (numbers : Numbers) (rows : List Row) (crew : List Worker) (w : ℕ) (l
 
   abbrev turn : Result Move Refused
   turn =
-      turn_with (some_below 8 (worker_wrong stood) || some_below 64 (row_wrong stood)) numbers w (worker_of crew w) log
-      records newest versions (length results)
+      turn_with rows crew numbers w log records newest versions (length results)
 
   turn_same : turn ≡ decided stood w log records newest versions results
   unfolding advance_verdict turn_with not_running
   turn_same =
       let tables = wrong_for_advance stood (length records) (length newest) (length versions) (length results) in
       let bytes = not_of (length log) (88 * numbers.size) in
-      rw (range_told numbers rows crew)
-      (same_worker tables (out_of_range stood) (not_running stood) (leb numbers.workers w) bytes crew w
+      same_worker tables (out_of_range stood) (not_running stood) (leb numbers.workers w) bytes crew w
       ∙ same_position tables (out_of_range stood) (not_running stood) (leb numbers.workers w) (is_idle mine) bytes
-      refl refl refl)
+      refl refl refl
 
   pub advanced_answer : answered turn ≡ (advance_of stood w log records newest versions results).stepped.answer
   advanced_answer = ap answered turn_same ∙ advance_answer stood w log records newest versions results

@@ -5,7 +5,6 @@ use Rattle.terms.specs.Refusals.{refuse_if, Verdict}
 use Rattle.terms.specs.declared.refusal.Refusal.{Refusal}
 use Rattle.terms.specs.declared.refusal.Refused.{Refused}
 use Rattle.engine.specs.Counting.{some_below}
-use Rattle.engine.specs.LawsLent.{range_told}
 use Rattle.engine.specs.Lent.{worker_of, joined}
 use Rattle.engine.specs.Moment.{not_running, not_planning, row_unfinished, not_sealable}
 use Rattle.engine.specs.Range.{no_worker}
@@ -55,4 +54,4 @@ same_idle [] w = refl
 same_idle (worker ∷ crew) zero = refl
 same_idle (worker ∷ crew) (suc w) = same_idle crew w
 
-pub ruleset asked = (range_told, planning_told, running_told, sealable_told, same_idle)
+pub ruleset asked = (planning_told, running_told, sealable_told, same_idle)

@@ -62,12 +62,16 @@ impl Worker {
     fn next_carried(self, carries: u8) -> u8
         ensures { result ≡ next_carried self.carried carries }
     {
-        (0..4)
-            .zip(self.carried.iter())
-            .filter(|&(_, &mark)| mark)
-            .map(|(j, _)| j)
-            .nth(usize::from(carries))
-            .unwrap_or(3)
+        let mut below = 0;
+        for (j, &mark) in self.carried.iter().enumerate() {
+            if mark {
+                if below == carries {
+                    return j as u8;
+                }
+                below += 1;
+            }
+        }
+        3
     }
 
     #[tactic(auto, unfolding(crate::specs::Acts::act_of))]

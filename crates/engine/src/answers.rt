@@ -13,8 +13,7 @@ impl Answer {
         ensures { result ≡ answer_number self }
     {
         match self {
-            Answer::Accepted => 0,
-            Answer::Waits(_) => 0,
+            Answer::Accepted | Answer::Waits(_) => 0,
             Answer::Refused(refusal, _) => refusal.number(),
         }
     }
@@ -24,8 +23,7 @@ impl Answer {
         ensures { result ≡ answer_place self }
     {
         match self {
-            Answer::Accepted => 0,
-            Answer::Waits(_) => 0,
+            Answer::Accepted | Answer::Waits(_) => 0,
             Answer::Refused(_, place) => place.transaction,
         }
     }
@@ -35,9 +33,8 @@ impl Answer {
         ensures { result ≡ answer_position self }
     {
         match self {
-            Answer::Accepted => 0,
             Answer::Waits(position) => position.0,
-            Answer::Refused(_, _) => 0,
+            Answer::Accepted | Answer::Refused(_, _) => 0,
         }
     }
 }

@@ -19,7 +19,8 @@ mod workers;
 use counters::Outcome;
 use terms::{BatchNumber, Place, Position, Refusal, Verdict};
 
-// "A transaction is Unprocessed, Executing by a named worker, or Complete with an outcome, committed or aborted."
+// "A transaction is Unprocessed, Executing by a named worker, or Complete with an outcome, committed or aborted." The
+// enum that document 01 names for it (a).
 #[derive(Clone, Copy)]
 pub enum Progress {
     Unprocessed,
@@ -34,7 +35,8 @@ pub struct Row {
 }
 
 // "A worker is idle; or holds a transaction and the values read so far; or, once decided, also outcome, new contents,
-// carry marks and how many carries and fills are done." How far it is, with the counts that it then has.
+// carry marks and how many carries and fills are done." How far it is, with the counts that it then has: three cases,
+// and so neither an Option nor a Result (d).
 #[derive(Clone, Copy)]
 pub enum Phase {
     Idle,
@@ -49,7 +51,8 @@ pub enum Phase {
     },
 }
 
-// A worker; what its phase does not have is zero in the worker that a call makes idle, and is never looked at.
+// A worker; what its phase does not have is zero in the worker that a call makes idle, and is never looked at. Its
+// arrays side by side (a), and not one of structs: the definitions and the theorems name each.
 #[derive(Clone, Copy)]
 pub struct Worker {
     pub phase: Phase,
@@ -60,7 +63,8 @@ pub struct Worker {
 }
 
 // All that a store is besides the lent tables: N, P, W, F, n (0 when no batch is open), the batch number, each
-// partition's count of placed transactions, each transaction's state and each worker's work.
+// partition's count of placed transactions, each transaction's state and each worker's work. The fields are document
+// 01's, and the definitions name each (a).
 #[derive(Clone, Copy)]
 pub struct State {
     pub records: u16,
@@ -74,7 +78,7 @@ pub struct State {
     pub crew: [Worker; 8],
 }
 
-// What a call answers.
+// What a call answers. No Result (d): "A wait is an accepted step", and has a position.
 #[derive(Clone, Copy)]
 pub enum Answer {
     Accepted,
@@ -89,7 +93,7 @@ pub struct Stepped {
     pub state: State,
 }
 
-// A store that was made, or the all-zero one.
+// A store that was made, or the all-zero one. No Result (a): "A refused making .. hands back the all-zero store".
 #[derive(Clone, Copy)]
 pub struct Made {
     pub verdict: Verdict,

@@ -4,8 +4,7 @@ ghost use Rattle.engine.specs.Moment.{no_batch};
 ghost use Rattle.engine.specs.Open.{wrong_batch_length, each_in_turn, opened, open_of};
 ghost use Rattle.engine.specs.LawsOpen.{open_plan};
 
-use crate::lent::{self, range};
-use crate::{Row, State, Stepped, Worker};
+use crate::{Row, State, Stepped, Worker, lent};
 use packed::unpack_at;
 use terms::{NO_SLOT, Refusal, Refused, Verdict, refuse_if};
 use versions::{Version, clear};
@@ -17,7 +16,7 @@ fn is_wrong_batch_length(bytes: usize) -> bool
     (bytes == 0) | (5632 < bytes) | (bytes % 88 != 0)
 }
 
-// "each transaction in turn 4 to 8"
+// "each transaction in turn 4 to 8". By their numbers (d): an entry is unpacked by its number in the whole log.
 fn each_in_turn(log: &[u8], n: usize, count: usize) -> Verdict
     ensures { result ≡ each_in_turn n log.now count 0 }
 {
@@ -31,7 +30,7 @@ fn each_in_turn(log: &[u8], n: usize, count: usize) -> Verdict
 impl State {
     // "Opening checks 1, 14, 9, 2, 3, then each transaction in turn 4 to 8." Where none refuses, the number of
     // transactions.
-    #[tactic(auto, using(crate::specs::LawsLent::range_told), unfolding(crate::specs::Open::open_verdict))]
+    #[tactic(auto, unfolding(crate::specs::Open::open_verdict))]
     fn opening(
         &self,
         log: &[u8],
@@ -44,8 +43,8 @@ impl State {
         let numbers = lent::numbers_of(*self);
         let wrong_length = numbers.is_wrong_for_opening(newest, versions, results);
         refuse_if(wrong_length, Refusal::WrongParameter, 0)?;
-        let wrong = range::are_wrong(&self.rows, &self.crew, numbers);
-        refuse_if(numbers.is_out_of_range(wrong), Refusal::StateOutOfRange, 0)?;
+        let out_of_range = numbers.is_out_of_range(&self.rows, &self.crew);
+        refuse_if(out_of_range, Refusal::StateOutOfRange, 0)?;
         refuse_if(self.size != 0, Refusal::WrongMoment, 0)?;
         refuse_if(is_wrong_batch_length(log.len()), Refusal::WrongLength, 0)?;
         let count = log.len() / 88;

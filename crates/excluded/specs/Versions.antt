@@ -1,6 +1,6 @@
 -- Wrong answers of the functions of `versions`, at small tables. Beside each stands the edit that gives it, where one
 -- keeps the code's shape; tools/try-edits tries them again.
-use Rattle.std.specs.Prelude.{ℕ, Bool, true, false, List, [], ◌∷◌, ◌++◌, refl}
+use Rattle.std.specs.Prelude.{ℕ, Bool, true, false, List, [], ◌∷◌, ◌++◌, set, refl}
 use Rattle.terms.specs.Reserved.{no_slot, no_end}
 use Rattle.versions.specs.Chain.{walk_of}
 use Rattle.versions.specs.Entry.{empty_entry, linked_of, ended_of, filled_of}
@@ -73,6 +73,9 @@ rows =
     -- entry_at: the empty entry for every slot; the first one for every slot
     ∷ row entry_parts (entry_of (first ∷ second ∷ []) 1) empty_entry
     ∷ row entry_parts (entry_of (first ∷ second ∷ []) 1) first
+    -- put: the first entry left as it was (put_leaves_the_first); always the first entry
+    ∷ row numbers (set (1 ∷ 2 ∷ []) 0 7) (1 ∷ 2 ∷ [])
+    ∷ row numbers (set (1 ∷ 2 ∷ []) 1 7) (7 ∷ 2 ∷ [])
     -- put_at: nothing stored; always in the first slot
     ∷ row table_parts (put_of (first ∷ empty_entry ∷ []) 1 second) (first ∷ empty_entry ∷ [])
     ∷ row table_parts (put_of (first ∷ empty_entry ∷ []) 1 second) (second ∷ empty_entry ∷ [])

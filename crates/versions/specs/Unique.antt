@@ -1,5 +1,5 @@
 -- Each contract determines its function's result, or what the lent table holds at exit: two that satisfy it are equal.
-use Rattle.std.specs.Prelude.{ℕ, Bool, List, ◌≡◌}
+use Rattle.std.specs.Prelude.{ℕ, Bool, List, ◌≡◌, set}
 use Rattle.terms.specs.Unique.{same}
 use Rattle.versions.specs.Chain.{walk_of}
 use Rattle.versions.specs.Entry.{empty_entry, linked_of, ended_of, filled_of}
@@ -28,6 +28,10 @@ filled_unique old new a b = same
 pub entry_at_unique : (versions : List Version) (slot : ℕ) (a b : Version)
     → a ≡ entry_of versions slot → b ≡ entry_of versions slot → a ≡ b
 entry_at_unique versions slot a b = same
+
+pub put_unique : {T : Type 0} (table : List T) (k : ℕ) (entry : T) (a b : List T)
+    → a ≡ set table k entry → b ≡ set table k entry → a ≡ b
+put_unique table k entry a b = same
 
 pub put_at_unique : (versions : List Version) (slot : ℕ) (version : Version) (a b : List Version)
     → a ≡ put_of versions slot version → b ≡ put_of versions slot version → a ≡ b

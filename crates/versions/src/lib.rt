@@ -14,9 +14,10 @@ pub use entry::{empty, ended, filled, linked};
 pub use plan::{Fill, Link};
 pub use seal::{collect, newest_sound};
 pub use step::{fill, link};
-pub use table::{clear, entry_at, put_at};
+pub use table::{clear, entry_at, put, put_at};
 
-// "Each entry has begin, end, previous slot, contents and a produced mark."
+// "Each entry has begin, end, previous slot, contents and a produced mark." The mark beside the contents and the slot
+// as a number (a): the lent table is document 01's, and an entry that is not produced has contents too.
 #[derive(Clone, Copy, Debug, PartialEq, Eq)]
 pub struct Version {
     pub begin: u64,

@@ -1,5 +1,5 @@
-// The table as a run of entries: one out, one in, and the first ones emptied.
-ghost use Rattle.std.specs.Prelude.{◌≡◌};
+// A table as a run of entries: one out, one in, and the first ones emptied.
+ghost use Rattle.std.specs.Prelude.{◌≡◌, set};
 ghost use Rattle.versions.specs.LawsTable.{slot_named};
 ghost use Rattle.versions.specs.Table.{entry_of, put_of, clear_of};
 
@@ -24,14 +24,21 @@ pub fn entry_at(versions: &[Version], slot: usize) -> Version
     versions.get(slot).copied().unwrap_or(empty())
 }
 
-// Stores an entry at any slot: past the end of the table nothing changes. The index is compared here, since of what
-// `get_mut` lends a proof does not know afterwards what it holds.
+// Entry k of a lent table replaced; past its end nothing changes. Not by `get_mut` (c): of what is written through its
+// answer a proof does not know afterwards what the table holds.
+pub fn put<T: Copy>(table: &mut [T], k: usize, entry: T)
+    ensures { table.new ≡ set table.old k entry }
+{
+    if k < table.len() {
+        table[k] = entry;
+    }
+}
+
+// Stores a version at any slot: past the end of the table nothing changes.
 pub fn put_at(versions: &mut [Version], slot: usize, version: Version)
     ensures { versions.new ≡ put_of versions.old slot version }
 {
-    if slot < versions.len() {
-        versions[slot] = version;
-    }
+    put(versions, slot, version);
 }
 
 // "the version table with empty entries": so many of the first ones, at most all.

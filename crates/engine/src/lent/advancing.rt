@@ -6,35 +6,30 @@ ghost use Rattle.engine.specs.LawsAdvance.{row_left, answered, rows_by, crew_by,
 ghost use Rattle.engine.specs.LawsLentAdvance.{aim_by, turn_with};
 
 use crate::advance::{Aim, fill_one, give_results};
+use crate::lent::Numbers;
 use crate::lent::entries::worker_at;
-use crate::lent::{Numbers, range};
 use crate::moves::Move;
 use crate::{Answer, Row, Worker, tables};
 use packed::unpack_at;
 use terms::{Refusal, Refused, refuse_if};
 use versions::Version;
 
-// "Steps check 1, 14, 9, 10, .. 12, .. then, in place and advance, 2 and the one transaction's 4 to 8, then 15", with
-// what 14 says of transactions and workers, and the worker.
+// "Steps check .. 14, 9, 10, .. 12, .. then, in place and advance, 2 and the one transaction's 4 to 8, then 15": what
+// comes after 1.
 pub(crate) fn consider_advance(
+    rows: &[Row],
+    crew: &[Worker],
     numbers: Numbers,
-    wrong: bool,
     w: usize,
-    worker: Worker,
     log: &[u8],
-    records: usize,
-    newest: usize,
-    versions: usize,
-    results: usize,
 ) -> Result<Aim, Refused>
-    ensures { result ≡ aim_by wrong numbers w worker log.now records newest versions results }
+    ensures { result ≡ aim_by rows.now crew.now numbers w log.now }
 {
-    let wrong_table = numbers.is_wrong_for_advance(records, newest, versions, results);
-    refuse_if(wrong_table, Refusal::WrongParameter, 0)?;
-    let out_of_range = numbers.is_out_of_range(wrong);
+    let out_of_range = numbers.is_out_of_range(rows, crew);
     refuse_if(out_of_range, Refusal::StateOutOfRange, 0)?;
     refuse_if(numbers.is_not_running(), Refusal::WrongMoment, 0)?;
     refuse_if(usize::from(numbers.workers) <= w, Refusal::NoSuchParty, 0)?;
+    let worker = worker_at(crew, w);
     refuse_if(worker.is_idle(), Refusal::WorkerBusyOrIdle, 0)?;
     let wrong_length = log.len() != 88 * usize::from(numbers.size);
     refuse_if(wrong_length, Refusal::WrongLength, 0)?;
@@ -54,13 +49,13 @@ pub(crate) fn consider_advance(
     })
 }
 
-// What an advance changes, decided before anything is touched.
+// What an advance changes, decided before anything is touched; "steps check 1" first.
 #[tactic(auto, unfolding(crate::specs::LawsLentAdvance::turn_with))]
 pub(crate) fn turn(
+    rows: &[Row],
+    crew: &[Worker],
     numbers: Numbers,
-    wrong: bool,
     party: usize,
-    worker: Worker,
     log: &[u8],
     records: &[u64],
     newest: &[u16],
@@ -68,20 +63,17 @@ pub(crate) fn turn(
     four: usize,
 ) -> Result<Move, Refused>
     ensures { result
-        ≡ turn_with wrong numbers party worker log.now records.now newest.now
+        ≡ turn_with rows.now crew.now numbers party log.now records.now newest.now
         versions.now four }
 {
-    let aim = consider_advance(
-        numbers,
-        wrong,
-        party,
-        worker,
-        log,
+    let wrong_table = numbers.is_wrong_for_advance(
         records.len(),
         newest.len(),
         versions.len(),
         four,
-    )?;
+    );
+    refuse_if(wrong_table, Refusal::WrongParameter, 0)?;
+    let aim = consider_advance(rows, crew, numbers, party, log)?;
     aim.moved(records, newest, versions)
 }
 
@@ -150,26 +142,17 @@ pub fn advance(
         ≡ (advance_of (joined numbers rows.old crew.old) party log.now
         records.now newest.now versions.old results.old).results)))) }
 {
-    let wrong = range::are_wrong(rows, crew, numbers);
-    let worker = worker_at(crew, party);
+    let transaction = worker_at(crew, party).transaction;
     let turn = turn(
+        rows,
+        crew,
         numbers,
-        wrong,
         party,
-        worker,
         log,
         records,
         newest,
         versions,
         results.len(),
     );
-    carry_out(
-        rows,
-        crew,
-        party,
-        worker.transaction,
-        versions,
-        results,
-        turn,
-    )
+    carry_out(rows, crew, party, transaction, versions, results, turn)
 }

@@ -4,8 +4,8 @@ ghost use Rattle.engine.specs.Claim.{claim_of};
 ghost use Rattle.engine.specs.Lent.{joined};
 ghost use Rattle.engine.specs.LawsClaim.{claim_plan};
 
+use crate::lent::Numbers;
 use crate::lent::entries::{row_at, worker_at};
-use crate::lent::{Numbers, range};
 use crate::{Answer, Row, Worker, tables};
 use terms::{Refusal, Refused, refuse_if};
 
@@ -27,8 +27,8 @@ pub(crate) fn consider_claim(
 ) -> Result<Claiming, Refused>
     ensures { result ≡ claim_plan (joined numbers rows.now crew.now) w i }
 {
-    let wrong = range::are_wrong(rows, crew, numbers);
-    refuse_if(numbers.is_out_of_range(wrong), Refusal::StateOutOfRange, 0)?;
+    let out_of_range = numbers.is_out_of_range(rows, crew);
+    refuse_if(out_of_range, Refusal::StateOutOfRange, 0)?;
     refuse_if(numbers.is_not_running(), Refusal::WrongMoment, 0)?;
     refuse_if(numbers.has_no_such_claim(w, i), Refusal::NoSuchParty, 0)?;
     refuse_if(!worker_at(crew, w).is_idle(), Refusal::WorkerBusyOrIdle, 0)?;

@@ -6,7 +6,7 @@ ghost use Rattle.engine.specs.LawsPlace.{placing_with, place_plan};
 ghost use Rattle.engine.specs.LawsPlan.{if_accepted};
 ghost use Rattle.engine.specs.Place.{fits, place_of};
 
-use crate::lent::{Counted, Numbers, range};
+use crate::lent::{Counted, Numbers};
 use crate::place::{Placing, place_writes, some_meets_wrong, writes_of};
 use crate::{Answer, Row, Worker};
 use packed::{Unpacked, unpack_at};
@@ -57,8 +57,8 @@ pub(crate) fn consider_place(
 {
     let wrong_length = numbers.is_wrong_for_place(newest.len(), versions);
     refuse_if(wrong_length, Refusal::WrongParameter, 0)?;
-    let wrong = range::are_wrong(rows, crew, numbers);
-    refuse_if(numbers.is_out_of_range(wrong), Refusal::StateOutOfRange, 0)?;
+    let out_of_range = numbers.is_out_of_range(rows, crew);
+    refuse_if(out_of_range, Refusal::StateOutOfRange, 0)?;
     refuse_if(numbers.is_not_planning(), Refusal::WrongMoment, 0)?;
     refuse_if(
         usize::from(numbers.partitions) <= p,

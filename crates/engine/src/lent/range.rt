@@ -4,8 +4,8 @@ ghost use Rattle.terms.specs.Reserved.{no_end};
 ghost use Rattle.engine.specs.Counting.{some_below};
 ghost use Rattle.engine.specs.Lent.{joined};
 ghost use Rattle.engine.specs.LawsHeld.{wrong_among, few_of};
-ghost use Rattle.engine.specs.LawsLent.{not_held_by, out_of_range_by};
-ghost use Rattle.engine.specs.Range.{numbers_wrong, placed_wrong, worker_wrong, row_wrong};
+ghost use Rattle.engine.specs.LawsLent.{not_held_by};
+ghost use Rattle.engine.specs.Range.{numbers_wrong, placed_wrong, worker_wrong, row_wrong, out_of_range};
 
 use crate::lent::Numbers;
 use crate::lent::entries::{row_at, worker_at};
@@ -54,6 +54,7 @@ impl Numbers {
         (self.size < placed) | ((usize::from(self.partitions) <= p) & (placed != 0))
     }
 
+    // The chain of `is_planning` with another test (d).
     fn has_wrong_placed(self) -> bool
         ensures { result ≡ some_below 8 (placed_wrong (joined self [] [])) }
     {
@@ -82,37 +83,32 @@ impl Numbers {
         usize::from(self.size.min(64))
     }
 
-    // 14, with what it says of the transactions and the workers.
-    pub(crate) fn is_out_of_range(self, wrong: bool) -> bool
-        ensures { result ≡ out_of_range_by self wrong }
+    fn has_wrong_worker(self, rows: &[Row], crew: &[Worker]) -> bool
+        ensures { result ≡ some_below 8 (worker_wrong (joined self rows.now crew.now)) }
     {
-        self.has_wrong_number() | self.has_wrong_placed() | wrong
+        crew.iter()
+            .enumerate()
+            .take(8)
+            .any(|(w, &worker)| self.is_wrong_worker(rows, w, worker))
     }
-}
 
-fn has_wrong_worker(rows: &[Row], crew: &[Worker], numbers: Numbers) -> bool
-    ensures { result ≡ some_below 8 (worker_wrong (joined numbers rows.now crew.now)) }
-{
-    crew.iter()
-        .enumerate()
-        .take(8)
-        .any(|(w, &worker)| numbers.is_wrong_worker(rows, w, worker))
-}
+    fn has_wrong_row(self, rows: &[Row], crew: &[Worker]) -> bool
+        ensures { result ≡ some_below 64 (row_wrong (joined self rows.now crew.now)) }
+    {
+        rows.iter()
+            .enumerate()
+            .take(self.transactions())
+            .any(|(i, &row)| is_not_held(crew, i, row))
+    }
 
-fn has_wrong_row(rows: &[Row], crew: &[Worker], numbers: Numbers) -> bool
-    ensures { result ≡ some_below 64 (row_wrong (joined numbers rows.now crew.now)) }
-{
-    rows.iter()
-        .enumerate()
-        .take(numbers.transactions())
-        .any(|(i, &row)| is_not_held(crew, i, row))
-}
-
-// What 14 says of the transactions and the workers.
-pub(crate) fn are_wrong(rows: &[Row], crew: &[Worker], numbers: Numbers) -> bool
-    ensures { result
-        ≡ (some_below 8 (worker_wrong (joined numbers rows.now crew.now))
-        || some_below 64 (row_wrong (joined numbers rows.now crew.now))) }
-{
-    has_wrong_worker(rows, crew, numbers) | has_wrong_row(rows, crew, numbers)
+    // 14, of the numbers with the transactions and the workers.
+    #[tactic(auto, using(crate::specs::LawsLent::range_told))]
+    pub(crate) fn is_out_of_range(self, rows: &[Row], crew: &[Worker]) -> bool
+        ensures { result ≡ out_of_range (joined self rows.now crew.now) }
+    {
+        self.has_wrong_number()
+            | self.has_wrong_placed()
+            | self.has_wrong_worker(rows, crew)
+            | self.has_wrong_row(rows, crew)
+    }
 }

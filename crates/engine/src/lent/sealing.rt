@@ -7,20 +7,16 @@ ghost use Rattle.engine.specs.Moment.{row_unfinished};
 ghost use Rattle.engine.specs.Seal.{closed, seal_of};
 
 use crate::lent::entries::row_at;
-use crate::lent::{Counted, Numbers, range};
+use crate::lent::{Counted, Numbers};
 use crate::{Answer, Row, Worker};
 use terms::{BatchNumber, NO_SLOT, Position, Refusal, Refused, refuse_if};
 use versions::{Version, clear, collect, newest_sound};
 
+// A transaction of the batch past the lent ones is unfinished too, and so they are asked by their numbers.
 pub(crate) fn has_unfinished(rows: &[Row], numbers: Numbers) -> bool
     ensures { result ≡ some_below 64 (row_unfinished (joined numbers rows.now [])) }
 {
-    for i in 0..numbers.transactions() {
-        if !row_at(rows, i).is_complete() {
-            return true;
-        }
-    }
-    false
+    (0..numbers.transactions()).any(|i| !row_at(rows, i).is_complete())
 }
 
 // "The seal checks 1, 14, 9, 15." Where none refuses, "the next position rises by n, the batch number by 1, and n and
@@ -38,8 +34,8 @@ pub(crate) fn consider_seal(
 {
     let wrong_length = numbers.is_wrong_for_seal(records.len(), newest.len(), versions.len());
     refuse_if(wrong_length, Refusal::WrongParameter, 0)?;
-    let wrong = range::are_wrong(rows, crew, numbers);
-    refuse_if(numbers.is_out_of_range(wrong), Refusal::StateOutOfRange, 0)?;
+    let out_of_range = numbers.is_out_of_range(rows, crew);
+    refuse_if(out_of_range, Refusal::StateOutOfRange, 0)?;
     let unfinished = has_unfinished(rows, numbers);
     refuse_if((numbers.size == 0) | unfinished, Refusal::WrongMoment, 0)?;
     let sound = newest_sound(versions, newest, numbers.slots());

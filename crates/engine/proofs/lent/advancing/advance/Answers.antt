@@ -25,8 +25,7 @@ returns c =
       c.carry_out.ensures.versions,
       c.carry_out.ensures.results,
       c.turn-turn.ensures,
-      c.are_wrong-wrong.ensures,
-      c.worker_at-worker.ensures,
+      c.worker_at-transaction.ensures,
     ) (
       advanced_answer numbers rows crew party log records newest versions results,
       (

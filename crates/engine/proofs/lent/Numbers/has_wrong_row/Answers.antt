@@ -2,21 +2,21 @@ use Rattle.std.proofs.Common.{◌∙◌, rules}
 use Rattle.std.proofs.lemmas.Iterator.{YieldsList-from_slice, YieldsList-from_take}
 use Rattle.std.proofs.lemmas.Iterator.Consumers.{YieldsList-from_enumerate}
 use Rattle.std.proofs.lemmas.Iterator.Search.{any_from_yields_List}
-use Rattle.engine.specs.LawsHeld.{wrong_among}
-use Rattle.engine.specs.LawsLent.{workers_told}
-use Rattle.engine.proofs.lent.range.has_wrong_worker.Goals as goal
+use Rattle.engine.specs.LawsHeld.{few_of}
+use Rattle.engine.specs.LawsLent.{not_held_by, rows_told}
+use Rattle.engine.proofs.lent.Numbers.has_wrong_row.Goals as goal
 
 pub returns : goal.returns
 returns c =
-    let numbers = c.args.numbers in
+    let numbers = c.args.self in
     let rows = c.args.rows.now in
     let crew = c.args.crew.now in
     any_from_yields_List
-    (λ entry. wrong_among numbers.workers numbers.size rows entry.0 entry.1)
+    (λ entry. not_held_by crew entry.0 entry.1.progress)
     _
     _
     c.any.result
     c.any.ensures.ran
-    (YieldsList-from_take 8 (YieldsList-from_enumerate (YieldsList-from_slice crew cc) cc) c.take.ensures.count)
+    (YieldsList-from_take (few_of numbers.size) (YieldsList-from_enumerate (YieldsList-from_slice rows cc) cc) cc)
     (λ x b q k. search rules)
-    ∙ workers_told numbers rows crew
+    ∙ rows_told numbers rows crew
