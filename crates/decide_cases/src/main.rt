@@ -1,15 +1,11 @@
 // Runs the stored cases of deciding and prints each decision on a line. The reference makes what it has to print.
 #![tactic(auto)]
 
-use case_files::{print_number, print_text};
+use case_files::{Cases, print_number, print_text};
 use counters::{Decision, Outcome};
 use packed::Transaction;
-use std::fs::File;
 use std::io::Read;
 use std::{array, io};
-
-// A file holds at most this many cases.
-const MOST: usize = 1000000;
 
 // What is decided: a meaning, on the values read.
 #[derive(Clone, Copy)]
@@ -59,20 +55,19 @@ fn next_case(file: &mut impl Read) -> io::Result<Option<Case>> {
     }))
 }
 
-fn all_cases(rt: &impl Print, file: &mut impl Read) -> io::Result<()> {
-    for _ in 0..MOST {
+// The cases of deciding.
+struct Decisions;
+
+impl Cases for Decisions {
+    fn run_next(rt: &impl Print, file: &mut impl Read) -> io::Result<Option<()>> {
         let Some(case) = next_case(file)? else {
-            break;
+            return Ok(None);
         };
         print_line(rt, counters::decide(case.meaning, case.values))?;
+        Ok(Some(()))
     }
-    Ok(())
 }
 
-// A missing file has no case.
 fn main(rt: HostRuntime) -> io::Result<()> {
-    match File::open(&rt, "cases.bin") {
-        Ok(mut file) => all_cases(&rt, &mut file),
-        Err(_) => Ok(()),
-    }
+    case_files::run_all::<Decisions, _>(&rt)
 }

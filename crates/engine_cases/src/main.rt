@@ -11,14 +11,11 @@ mod state;
 mod tables;
 
 use calls::Call;
+use case_files::Cases;
 use listed::List;
-use std::fs::File;
 use std::io;
 use std::io::Read;
 use tables::{LONGEST, Tables};
-
-// A file holds at most this many cases. With no bound nothing would show that the loop over them ends.
-const MOST: usize = 1000000;
 
 // What follows the call in the file, and the call's six lines.
 fn case(rt: &impl Print, file: &mut impl Read, call: Call) -> io::Result<()> {
@@ -41,20 +38,19 @@ fn case(rt: &impl Print, file: &mut impl Read, call: Call) -> io::Result<()> {
     print::after(rt, call, stepped, &tables, &list)
 }
 
-fn all_cases(rt: &impl Print, file: &mut impl Read) -> io::Result<()> {
-    for _ in 0..MOST {
+// The cases of the engine's calls.
+struct EngineCases;
+
+impl Cases for EngineCases {
+    fn run_next(rt: &impl Print, file: &mut impl Read) -> io::Result<Option<()>> {
         let Some(call) = Call::next(file)? else {
-            break;
+            return Ok(None);
         };
         case(rt, file, call)?;
+        Ok(Some(()))
     }
-    Ok(())
 }
 
-// A missing file has no case.
 fn main(rt: HostRuntime) -> io::Result<()> {
-    match File::open(&rt, "cases.bin") {
-        Ok(mut file) => all_cases(&rt, &mut file),
-        Err(_) => Ok(()),
-    }
+    case_files::run_all::<EngineCases, _>(&rt)
 }

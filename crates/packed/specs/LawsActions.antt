@@ -1,6 +1,7 @@
 -- Laws of refusal 4 in the actions, whose first eight bytes are taken as one number, and in a whole entry.
 use Rattle.std.specs.Prelude.{ℕ, zero, suc, ◌+◌, ◌*◌, ◌%◌, ◌<◌, Bool, true, false}
-use Rattle.std.specs.Prelude.{◌&&◌, ◌||◌, not, ◌≡◌, refl, List, ltb, leb, eqb}
+use Rattle.std.specs.Prelude.{◌&&◌, ◌||◌, not, ◌≡◌, refl, List, [], ◌∷◌, ltb, leb, eqb}
+use Rattle.std.specs.List.{list_any}
 use Rattle.std.proofs.Common.{sym, ◌∙◌, arith, lt-ltb, le-ltb}
 use Rattle.little.specs.Laws.{Bytes}
 use Rattle.little.specs.Little.{number_in}
@@ -52,6 +53,15 @@ actions_malformed b =
     || (action_malformed b 40 (ltb 1 (byte_at b 2))
     || (action_malformed b 56 (ltb 2 (byte_at b 2))
     || action_malformed b 72 (ltb 3 (byte_at b 2))))
+
+or_none : (a : Bool) → (a || false) ≡ a
+or_none true = refl
+or_none false = refl
+
+-- the four one after the other
+pub actions_joined : (b : List ℕ)
+    → list_any (λ k. action_malformed b (24 + 16 * k) (ltb k (byte_at b 2))) (0 ∷ 1 ∷ 2 ∷ 3 ∷ []) ≡ actions_malformed b
+actions_joined b = rw (or_none (action_malformed b 72 (ltb 3 (byte_at b 2)))) refl
 
 abbrev made : ℕ → ℕ → ℕ → ℕ → Fields
 made kind r s c = record { kind = kind; r = r; s = s; c = c }

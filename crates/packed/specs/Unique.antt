@@ -2,11 +2,14 @@
 use Rattle.std.specs.Prelude.{ℕ, List, ◌≡◌}
 use Rattle.std.proofs.Common.{ap}
 use Rattle.terms.specs.Unique.{same}
-use Rattle.packed.specs.Decode.{nothing}
+use Rattle.packed.specs.Decode.{action_of, nothing}
+use Rattle.packed.specs.Encode.{fields_of}
 use Rattle.packed.specs.Packing.{packed, pack_of}
 use Rattle.packed.specs.Unpacking.{unpack_of, unpack_at_of}
+use Rattle.packed.specs.declared.Action.{Action}
 use Rattle.packed.specs.declared.Transaction.{Transaction}
 use Rattle.packed.specs.declared.Unpacked.{Unpacked}
+use Rattle.packed.specs.declared.fields.Fields.{Fields}
 use Rattle.terms.specs.Refusals.{Verdict}
 
 pub unpack_unique : (n : ℕ) (bytes : List ℕ) (a b : Unpacked) → a ≡ unpack_of n bytes → b ≡ unpack_of n bytes → a ≡ b
@@ -24,3 +27,9 @@ pack_unique n meaning buffer a b a_exit b_exit first second =
 
 pub no_meaning_unique : (a b : Transaction) → a ≡ nothing → b ≡ nothing → a ≡ b
 no_meaning_unique a b = same
+
+pub action_unique : (x : Fields) (a b : Action) → a ≡ action_of x → b ≡ action_of x → a ≡ b
+action_unique x a b = same
+
+pub fields_unique : (action : Action) (a b : Fields) → a ≡ fields_of action → b ≡ fields_of action → a ≡ b
+fields_unique action a b = same

@@ -8,17 +8,19 @@ use fields::Fields;
 
 // The action of these fields; a kind outside 1 to 6 is none. Here and in `encode` a kind is its number in the bytes: an
 // enum of kinds would be a second list of the cases of `Action`.
-fn action_of(x: Fields) -> Action
-    ensures { result ≡ action_of x }
-{
-    match x.kind {
-        1 => Action::Set { r: x.r, c: x.c },
-        2 => Action::Add { r: x.r, c: x.c },
-        3 => Action::Take { r: x.r, c: x.c },
-        4 => Action::Copy { r: x.r, s: x.s },
-        5 => Action::Move { r: x.r, s: x.s },
-        6 => Action::Floor { r: x.r, c: x.c },
-        _ => Action::Nothing,
+impl From<Fields> for Action {
+    ghost from_gives = { λ x action. action ≡ action_of x };
+
+    fn from(x: Fields) -> Action {
+        match x.kind {
+            1 => Action::Set { r: x.r, c: x.c },
+            2 => Action::Add { r: x.r, c: x.c },
+            3 => Action::Take { r: x.r, c: x.c },
+            4 => Action::Copy { r: x.r, s: x.s },
+            5 => Action::Move { r: x.r, s: x.s },
+            6 => Action::Floor { r: x.r, c: x.c },
+            _ => Action::Nothing,
+        }
     }
 }
 
@@ -27,7 +29,7 @@ pub(crate) fn action_at(b: &[u8], at: usize) -> Action
     requires { at + 16 ≤ length b.now }
     ensures { result ≡ action_of (fields_at b.now at) }
 {
-    action_of(fields::fields_at(b, at))
+    Action::from(fields::fields_at(b, at))
 }
 
 fn row_at(b: &[u8], at: usize) -> ActionRow
@@ -44,6 +46,7 @@ pub(crate) fn decoded(b: &Entry) -> Transaction
 {
     let reads = fields::set_at(b, 4);
     let writes = fields::set_at(b, 12);
+    // One by one: with `array::from_fn` over the four the search finds no proof.
     let actions = [row_at(b, 24), row_at(b, 40), row_at(b, 56), row_at(b, 72)];
     Transaction {
         readcount: b[0],

@@ -7,17 +7,19 @@ use crate::{Action, ActionRow, Transaction, fields};
 use fields::Fields;
 
 // The fields of an action: its kind, and 0 in a field that it does not have.
-fn fields_of(row: ActionRow) -> Fields
-    ensures { result ≡ fields_of row.action }
-{
-    match row.action {
-        Action::Nothing => fields_with(0, 0, 0, 0),
-        Action::Set { r, c } => fields_with(1, r, 0, c),
-        Action::Add { r, c } => fields_with(2, r, 0, c),
-        Action::Take { r, c } => fields_with(3, r, 0, c),
-        Action::Copy { r, s } => fields_with(4, r, s, 0),
-        Action::Move { r, s } => fields_with(5, r, s, 0),
-        Action::Floor { r, c } => fields_with(6, r, 0, c),
+impl From<Action> for Fields {
+    ghost from_gives = { λ action x. x ≡ fields_of action };
+
+    fn from(action: Action) -> Fields {
+        match action {
+            Action::Nothing => fields_with(0, 0, 0, 0),
+            Action::Set { r, c } => fields_with(1, r, 0, c),
+            Action::Add { r, c } => fields_with(2, r, 0, c),
+            Action::Take { r, c } => fields_with(3, r, 0, c),
+            Action::Copy { r, s } => fields_with(4, r, s, 0),
+            Action::Move { r, s } => fields_with(5, r, s, 0),
+            Action::Floor { r, c } => fields_with(6, r, 0, c),
+        }
     }
 }
 
@@ -38,16 +40,11 @@ fn action_bytes(x: Fields) -> [u8; 16]
     ]
 }
 
+#[tactic(auto, unfolding(crate::specs::Encode::set_bytes, little::specs::Little::bytes_of))]
 fn set_bytes(set: [u16; 4]) -> [u8; 8]
     ensures { result ≡ set_bytes set }
 {
-    let first = little::word_bytes(set[0]);
-    let second = little::word_bytes(set[1]);
-    let third = little::word_bytes(set[2]);
-    let fourth = little::word_bytes(set[3]);
-    [
-        first[0], first[1], second[0], second[1], third[0], third[1], fourth[0], fourth[1],
-    ]
+    std::array::from_fn(|k| little::word_bytes(set[k / 2])[k % 2])
 }
 
 // Puts some bytes into others from `at` on.
@@ -71,7 +68,7 @@ fn paste_action(b: &mut [u8], at: usize, row: ActionRow)
     requires { at + 16 ≤ length b.old }
     ensures { b.new ≡ pasted at (action_bytes (fields_of row.action)) b.old }
 {
-    paste(b, at, &action_bytes(fields_of(row)));
+    paste(b, at, &action_bytes(Fields::from(row.action)));
 }
 
 pub(crate) fn encoded(t: Transaction) -> [u8; 88]
@@ -81,6 +78,7 @@ pub(crate) fn encoded(t: Transaction) -> [u8; 88]
     paste(&mut b, 0, &[t.readcount, t.writecount, t.actioncount]);
     paste_set(&mut b, 4, t.reads);
     paste_set(&mut b, 12, t.writes);
+    // One by one: a loop needs an invariant, and a law of the actions that are left.
     paste_action(&mut b, 24, t.actions[0]);
     paste_action(&mut b, 40, t.actions[1]);
     paste_action(&mut b, 56, t.actions[2]);

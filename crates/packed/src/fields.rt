@@ -22,16 +22,7 @@ pub(crate) fn long_at(b: &[u8], at: usize) -> u64
     requires { at + 8 ≤ length b.now }
     ensures { result ≡ long_at b.now at }
 {
-    little::long([
-        b[at],
-        b[at + 1],
-        b[at + 2],
-        b[at + 3],
-        b[at + 4],
-        b[at + 5],
-        b[at + 6],
-        b[at + 7],
-    ])
+    little::long(std::array::from_fn(|k| b[at + k]))
 }
 
 // The four record numbers from `at` on.
@@ -39,12 +30,7 @@ pub(crate) fn set_at(b: &[u8], at: usize) -> [u16; 4]
     requires { at + 8 ≤ length b.now }
     ensures { result ≡ set_at b.now at }
 {
-    [
-        word_at(b, at),
-        word_at(b, at + 2),
-        word_at(b, at + 4),
-        word_at(b, at + 6),
-    ]
+    std::array::from_fn(|k| word_at(b, at + 2 * k))
 }
 
 // The fields of the action whose 16 bytes start at `at`.

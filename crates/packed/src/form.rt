@@ -2,8 +2,8 @@
 // are looked at as one number, in which a kind is a number too: the bytes from some place on are zero where the number
 // is below a power of 256. Looked at one by one they took over 1.3 times as many instructions as C does
 // (docs/PERFORMANCE.md, "Unpacking one entry").
-ghost use Rattle.std.specs.Prelude.{◌≡◌, ◌+◌, ◌≤◌, length};
-ghost use Rattle.packed.specs.Fields.{set_at};
+ghost use Rattle.std.specs.Prelude.{◌≡◌, ◌+◌, ◌*◌, ◌<◌, ◌≤◌, length, ltb};
+ghost use Rattle.packed.specs.Fields.{byte_at, set_at};
 ghost use Rattle.packed.specs.Form.{count_above, past_set, malformed};
 ghost use Rattle.packed.specs.LawsActions.{within_malformed, action_malformed, actions_malformed};
 ghost use Rattle.packed.specs.LawsPast.{rest_nonzero};
@@ -52,14 +52,15 @@ fn within_malformed(head: u64, c: u64) -> bool
     }
 }
 
-// The action at `at` has a kind outside 1–6 within the count, or a byte that must be zero and is not.
-fn action_malformed(b: &[u8], at: usize, within: bool) -> bool
-    requires { at + 16 ≤ length b.now }
-    ensures { result ≡ action_malformed b.now at within }
+// Action k has a kind outside 1–6 within the count, or a byte that must be zero and is not.
+fn action_malformed(b: &Entry, k: usize) -> bool
+    requires { k < 4 }
+    ensures { result ≡ action_malformed b.now (24 + 16 * k) (ltb k (byte_at b.now 2)) }
 {
+    let at = 24 + 16 * k;
     let head = fields::long_at(b, at);
     let c = fields::long_at(b, at + 8);
-    if within {
+    if k < usize::from(b[2]) {
         within_malformed(head, c)
     } else {
         (head != 0) | (c != 0)
@@ -69,11 +70,7 @@ fn action_malformed(b: &[u8], at: usize, within: bool) -> bool
 fn actions_malformed(b: &Entry) -> bool
     ensures { result ≡ actions_malformed b.now }
 {
-    let count = b[2];
-    action_malformed(b, 24, 0 < count)
-        || action_malformed(b, 40, 1 < count)
-        || action_malformed(b, 56, 2 < count)
-        || action_malformed(b, 72, 3 < count)
+    (0..4).any(|k| action_malformed(b, k))
 }
 
 #[tactic(auto, using(crate::specs::LawsActions::malformed_parts))]

@@ -10,6 +10,7 @@ mod records;
 mod unpacking;
 
 pub use decode::no_meaning;
+pub use fields::Fields;
 pub use packing::pack;
 use terms::Verdict;
 pub use unpacking::{unpack, unpack_at};

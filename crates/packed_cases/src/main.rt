@@ -5,13 +5,10 @@
 mod cases;
 mod print;
 
+use case_files::Cases;
 use cases::{Asked, Head};
-use std::fs::File;
 use std::io;
 use std::io::Read;
-
-// A file holds at most this many cases.
-const MOST: usize = 1000000;
 
 // What a 16-bit length can lend.
 const ROOM: usize = 65536;
@@ -64,31 +61,26 @@ fn lent_case(
     Ok(Some(()))
 }
 
-// Runs the next case; nothing where the file has none.
-fn next_case(rt: &impl Print, file: &mut impl Read) -> io::Result<Option<()>> {
-    let mut bytes = [0u8; 19];
-    if filled(file, &mut bytes)?.is_none() {
-        return Ok(None);
-    }
-    let head = Head::from(bytes);
-    // a byte that shows what was not written
-    let mut space = [170; ROOM];
-    let lent = &mut space[..usize::from(head.length)];
-    match head.asked {
-        Asked::Pack => pack_case(rt, file, lent, head),
-        _ => lent_case(rt, file, lent, head),
+// The cases of packed transactions.
+struct Transactions;
+
+impl Cases for Transactions {
+    fn run_next(rt: &impl Print, file: &mut impl Read) -> io::Result<Option<()>> {
+        let mut bytes = [0u8; 19];
+        if filled(file, &mut bytes)?.is_none() {
+            return Ok(None);
+        }
+        let head = Head::from(bytes);
+        // a byte that shows what was not written
+        let mut space = [170; ROOM];
+        let lent = &mut space[..usize::from(head.length)];
+        match head.asked {
+            Asked::Pack => pack_case(rt, file, lent, head),
+            _ => lent_case(rt, file, lent, head),
+        }
     }
 }
 
-// A missing file has no case.
 fn main(rt: HostRuntime) -> io::Result<()> {
-    let Ok(mut file) = File::open(&rt, "cases.bin") else {
-        return Ok(());
-    };
-    for _ in 0..MOST {
-        if next_case(&rt, &mut file)?.is_none() {
-            break;
-        }
-    }
-    Ok(())
+    case_files::run_all::<Transactions, _>(&rt)
 }

@@ -1,10 +1,7 @@
 // What the program prints.
 use crate::Setup;
 use crate::tables::Tables;
-use desk::{
-    Line, Tally, counts_of, not_sealed_line, opening_line, record_at, refusal_line, transaction_at,
-};
-use engine::Stepped;
+use desk::{Line, Tally, counts_of, not_sealed_line, record_at, refusal_line, transaction_at};
 use std::io;
 use terms::Refusal;
 
@@ -20,10 +17,7 @@ pub(crate) fn refused(rt: &impl Print, refusal: Refusal) -> io::Result<()> {
     print(rt, refusal_line(refusal))
 }
 
-pub(crate) fn refusal(rt: &impl Print, stepped: Stepped) -> io::Result<()> {
-    print(rt, opening_line(stepped))
-}
-
+// By index, here and for the records: `desk` is lent a table and makes the line of the place in it that it is given.
 fn transactions(rt: &impl Print, tally: Tally, log: &[u8], results: &[u64]) -> io::Result<()> {
     for index in 0..log.len() / 88 {
         print(rt, transaction_at(tally, log, results, index))?;

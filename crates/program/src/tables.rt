@@ -53,8 +53,8 @@ fn batch<R: Print, F: Read>(
     tables: &mut Tables<'_>,
 ) -> io::Result<()> {
     let opened = state.open(tables.log, tables.newest, tables.versions, tables.results);
-    if matches!(opened.answer, Answer::Refused(_, _)) {
-        return print::refusal(rt, opened);
+    if let Answer::Refused(refusal, _) = opened.answer {
+        return print::refused(rt, refusal);
     }
     let tally = work(begin(opened.state), steps, tables)?;
     print::all(rt, tally, setup, tables)

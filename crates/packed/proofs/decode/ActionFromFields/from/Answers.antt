@@ -1,7 +1,7 @@
 use Rattle.std.proofs.Common.{sym, refl, arith}
 use Rattle.packed.specs.Decode.{action_of}
 use Rattle.packed.specs.LawsKinds.{Other, other_kind}
-use Rattle.packed.proofs.decode.action_of.Goals as goal
+use Rattle.packed.proofs.decode.ActionFromFields.from.Goals as goal
 
 pub returns-in-1 : goal.returns-in-1
 unfolding action_of
