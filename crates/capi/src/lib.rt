@@ -33,7 +33,7 @@ fn is_wrong_lent(results: usize, outcomes: usize, counts: usize) -> bool
 }
 
 // A store is made, the batch opened, and every step offered. Slices beside each other and a number for the answer: C's
-// interface (a).
+// interface.
 pub fn uxoladun_run(
     records: &mut [u64],
     log: &[u8],

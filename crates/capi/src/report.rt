@@ -7,7 +7,7 @@ use desk::Tally;
 use engine::{Progress, Row, State};
 use versions::put;
 
-// What became of a transaction, as `uxoladun_run` numbers it for C (a).
+// What became of a transaction, as `uxoladun_run` numbers it for C.
 fn outcome_byte(row: Row) -> u8
     ensures { result ≡ outcome_byte row.progress }
 {

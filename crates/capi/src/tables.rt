@@ -9,7 +9,7 @@ use engine::{Answer, State};
 use versions::empty;
 
 // The batch is opened and every step offered. The newest-version table, as long as the records, and the version table
-// are local arrays, and the slices are those that C lends (a). A refused opening tells nothing but its number.
+// are local arrays, and the slices are those that C lends. A refused opening tells nothing but its number.
 pub(crate) fn run_made(
     state: State,
     log: &[u8],

@@ -28,7 +28,7 @@ pub fn begin(state: State) -> Tally
 }
 
 impl Tally {
-    // The numbers of its state are these; its transactions and workers stay. Field by field (a): the engine's `State`
+    // The numbers of its state are these; its transactions and workers stay. Field by field: the engine's `State`
     // has the numbers among its own fields.
     pub(crate) fn keep(&mut self, numbers: Numbers)
         ensures { self.new ≡ with_numbers self.old numbers }

@@ -16,7 +16,7 @@ pub use output::{counts_of, make_for, opening_line, record_at, refusal_line, tra
 pub use text::{counts_line, not_sealed_line, record_line, refused_line, transaction_line};
 
 // "4 bytes a step: kind 1 place, 2 claim, 3 advance, 4 seal; party; 16-bit transaction, zero except for a claim".
-// A kind is a number here (a): the file's form, which `step_at` and the theorems of `promised` name; `asks` has the
+// A kind is a number here: the file's form, which `step_at` and the theorems of `promised` name; `asks` has the
 // enum.
 #[derive(Clone, Copy, Debug, PartialEq, Eq)]
 pub struct Step {
@@ -25,7 +25,7 @@ pub struct Step {
     pub transaction: u16,
 }
 
-// A line of the program's output: its first `length` bytes. A buffer with its length (a): no heap, and `line_of` names
+// A line of the program's output: its first `length` bytes. A buffer with its length: no heap, and `line_of` names
 // both.
 #[derive(Clone, Copy, Debug, PartialEq, Eq)]
 pub struct Line {
@@ -33,7 +33,7 @@ pub struct Line {
     pub length: usize,
 }
 
-// The engine's state, the three counts of the last line, and whether a seal was accepted: a mark beside the counts (a),
+// The engine's state, the three counts of the last line, and whether a seal was accepted: a mark beside the counts,
 // since "Steps after an accepted seal are still offered".
 #[derive(Clone, Copy)]
 pub struct Tally {

@@ -10,7 +10,7 @@ use engine::lent;
 use engine::lent::Numbers;
 use versions::Version;
 
-// A step goes to the engine or is refused at once. The tables are lent one by one (a), as the engine takes them.
+// A step goes to the engine or is refused at once. The tables are lent one by one, as the engine takes them.
 fn offer(
     tally: &mut Tally,
     numbers: &mut Numbers,
@@ -53,8 +53,8 @@ fn offer(
     }
 }
 
-// Offers the whole steps in the first `bytes` bytes of a piece of their file, one after the other, by their numbers
-// (a): the definition, `run_of`, and `step_at` name step k.
+// Offers the whole steps in the first `bytes` bytes of a piece of their file, one after the other, by their numbers:
+// the definition, `run_of`, and `step_at` name step k.
 pub fn offer_all(
     mut tally: Tally,
     piece: &[u8],

@@ -11,7 +11,7 @@ fn digit(number: u64) -> u8
     b'0' + (number % 10) as u8
 }
 
-// Not by `write!` (c): its contract says what an `Ok` wrote and nothing of an `Err`, and a line has no `Err` to give.
+// Not by `write!`: its contract says what an `Ok` wrote and nothing of an `Err`, and a line has no `Err` to give.
 impl Line {
     pub(crate) fn blank() -> Line
         ensures { result ≡ line_of [] }

@@ -91,7 +91,7 @@ pub(crate) fn give_results(results: &mut [u64], transaction: u8, four: Option<[u
 
 impl State {
     // "One of: read the next declared read; with none left, decide; carry the next carried write; fill the next write."
-    // The tables are lent one by one (a), as the promise names them.
+    // The tables are lent one by one, as the promise names them.
     pub fn advance(
         mut self,
         w: usize,

@@ -1,5 +1,5 @@
 // The steps on a state whose transactions and workers are lent, so that a step copies no more than it changes. They,
-// the numbers and the tables are lent side by side (a): `place`, `claim`, `advance` and `seal` promise them so, each by
+// the numbers and the tables are lent side by side: `place`, `claim`, `advance` and `seal` promise them so, each by
 // its name, and what they call takes them so.
 pub(crate) mod advancing;
 pub(crate) mod claiming;
@@ -59,7 +59,7 @@ pub struct Counted {
 
 impl Counted {
     // The state that a step leaves, put together again with the transactions and the workers. Field by field, as in
-    // `numbers_of` (a): a `State` has the numbers among its own fields. An array goes by a variable (c): the borrow
+    // `numbers_of`: a `State` has the numbers among its own fields. An array goes by a variable: the borrow
     // checker does not cover it otherwise.
     pub(crate) fn joined(self, rows: [Row; 64], crew: [Worker; 8]) -> Stepped
         ensures { result ≡ record { answer = self.answer; state = joined self.numbers rows crew } }

@@ -20,7 +20,7 @@ use counters::Outcome;
 use terms::{BatchNumber, Place, Position, Refusal, Verdict};
 
 // "A transaction is Unprocessed, Executing by a named worker, or Complete with an outcome, committed or aborted." The
-// enum that document 01 names for it (a).
+// enum that document 01 names for it.
 #[derive(Clone, Copy)]
 pub enum Progress {
     Unprocessed,
@@ -36,7 +36,7 @@ pub struct Row {
 
 // "A worker is idle; or holds a transaction and the values read so far; or, once decided, also outcome, new contents,
 // carry marks and how many carries and fills are done." How far it is, with the counts that it then has: three cases,
-// and so neither an Option nor a Result (d).
+// and so neither an Option nor a Result.
 #[derive(Clone, Copy)]
 pub enum Phase {
     Idle,
@@ -52,7 +52,7 @@ pub enum Phase {
 }
 
 // A worker; what its phase does not have is zero in the worker that a call makes idle, and is never looked at. Its
-// arrays side by side (a), and not one of structs: the definitions and the theorems name each.
+// arrays side by side, and not one of structs: the definitions and the theorems name each.
 #[derive(Clone, Copy)]
 pub struct Worker {
     pub phase: Phase,
@@ -64,7 +64,7 @@ pub struct Worker {
 
 // All that a store is besides the lent tables: N, P, W, F, n (0 when no batch is open), the batch number, each
 // partition's count of placed transactions, each transaction's state and each worker's work. The fields are document
-// 01's, and the definitions name each (a).
+// 01's, and the definitions name each.
 #[derive(Clone, Copy)]
 pub struct State {
     pub records: u16,
@@ -78,7 +78,7 @@ pub struct State {
     pub crew: [Worker; 8],
 }
 
-// What a call answers. No Result (d): "A wait is an accepted step", and has a position.
+// What a call answers. No Result: "A wait is an accepted step", and has a position.
 #[derive(Clone, Copy)]
 pub enum Answer {
     Accepted,
@@ -93,7 +93,7 @@ pub struct Stepped {
     pub state: State,
 }
 
-// A store that was made, or the all-zero one. No Result (a): "A refused making .. hands back the all-zero store".
+// A store that was made, or the all-zero one. No Result: "A refused making .. hands back the all-zero store".
 #[derive(Clone, Copy)]
 pub struct Made {
     pub verdict: Verdict,

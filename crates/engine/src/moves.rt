@@ -9,7 +9,7 @@ use terms::{Position, Refusal, Refused};
 use versions::{Fill, Walked};
 
 // What a look at a record shows: contents, a version that is not produced yet, or a chain that no run leaves so. Three
-// cases, neither an Option nor a Result (d): what is not produced yet is waited for, and only the last is refused.
+// cases, neither an Option nor a Result: what is not produced yet is waited for, and only the last is refused.
 #[derive(Clone, Copy)]
 pub enum Seen {
     Contents(u64),
@@ -135,7 +135,7 @@ pub(crate) fn decides(worker: Worker, writecount: u8, decision: Decision) -> Mov
     }
 }
 
-// Two cases as in `reads` (d): a closure for the third would need a relation in the contract, where this has the
+// Two cases as in `reads`: a closure for the third would need a relation in the contract, where this has the
 // definition.
 pub(crate) fn carries(worker: Worker, j: u8, seen: Seen) -> Result<Move, Refused>
     ensures { result ≡ carries worker j seen }
@@ -147,8 +147,8 @@ pub(crate) fn carries(worker: Worker, j: u8, seen: Seen) -> Result<Move, Refused
     }
 }
 
-// The worker after fill j: "The last fill .. completes the transaction". The parts of the phase that `fills` took apart
-// (d): taken apart here, the other phases would need an answer a second time.
+// The worker after fill j: "The last fill .. completes the transaction". It is given the parts of the phase that
+// `fills` took apart: taken apart here, the other phases would need an answer a second time.
 fn after_fill(
     worker: Worker,
     outcome: Outcome,

@@ -16,7 +16,7 @@ fn is_wrong_batch_length(bytes: usize) -> bool
     (bytes == 0) | (5632 < bytes) | (bytes % 88 != 0)
 }
 
-// "each transaction in turn 4 to 8". By their numbers (d): an entry is unpacked by its number in the whole log.
+// "each transaction in turn 4 to 8". By their numbers: an entry is unpacked by its number in the whole log.
 fn each_in_turn(log: &[u8], n: usize, count: usize) -> Verdict
     ensures { result ≡ each_in_turn n log.now count 0 }
 {

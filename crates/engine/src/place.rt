@@ -38,7 +38,7 @@ pub(crate) fn writes_of(partitions: u8, p: usize, meaning: &Transaction) -> [Opt
     array::from_fn(|j| written_at(partitions, p, meaning, j))
 }
 
-// "a slot met in placing is not below its own"; 65,535 stands for none in the lent table (a)
+// "a slot met in placing is not below its own"; 65,535 stands for none in the lent table
 fn is_not_below(slot: u16, own: usize) -> bool
     ensures { result ≡ not_below slot own }
 {

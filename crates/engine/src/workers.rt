@@ -100,7 +100,7 @@ impl Worker {
     }
 
     // "once decided, also outcome, new contents, carry marks and how many carries and fills are done". An array goes
-    // by a variable (c), as in `joined`.
+    // by a variable, as in `joined`.
     pub(crate) fn with_decision(self, decision: Decision) -> Worker
         ensures { result ≡ with_decision self decision }
     {

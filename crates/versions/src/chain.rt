@@ -5,7 +5,7 @@ ghost use Rattle.versions.specs.Chain.{walk_of};
 use crate::Version;
 
 // What a walk comes to: the stored record, "past the last one"; a version; or a slot that no proper chain has. These
-// are three answers side by side, and so neither an Option nor a Result (d).
+// are three answers side by side, and so neither an Option nor a Result.
 #[derive(Clone, Copy, Debug, PartialEq, Eq)]
 pub enum Walked {
     Stored,
@@ -20,7 +20,7 @@ pub fn walk(versions: &[Version], from: u16, bound: usize, at: u64) -> Walked
 {
     let mut limit = bound.min(versions.len());
     let mut number = from;
-    // As an Option, of `table::slot`, the number costs three instructions more for each version (b).
+    // As an Option, of `table::slot`, the number costs three instructions more for each version.
     while !terms::is_no_slot(number) {
         let slot = number as usize;
         if limit <= slot {

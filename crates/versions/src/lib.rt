@@ -17,7 +17,7 @@ pub use step::{fill, link};
 pub use table::{clear, entry_at, put, put_at};
 
 // "Each entry has begin, end, previous slot, contents and a produced mark." The mark beside the contents and the slot
-// as a number (a): the lent table is document 01's, and an entry that is not produced has contents too.
+// as a number: the lent table is document 01's, and an entry that is not produced has contents too.
 #[derive(Clone, Copy, Debug, PartialEq, Eq)]
 pub struct Version {
     pub begin: u64,

@@ -24,7 +24,7 @@ pub fn entry_at(versions: &[Version], slot: usize) -> Version
     versions.get(slot).copied().unwrap_or(empty())
 }
 
-// Entry k of a lent table replaced; past its end nothing changes. Not by `get_mut` (c): of what is written through its
+// Entry k of a lent table replaced; past its end nothing changes. Not by `get_mut`: of what is written through its
 // answer a proof does not know afterwards what the table holds.
 pub fn put<T: Copy>(table: &mut [T], k: usize, entry: T)
     ensures { table.new ≡ set table.old k entry }

@@ -1,4 +1,4 @@
-// One of the lent transactions, and one of the lent workers: a chain of std's methods each, with its own stand-in (d).
+// One of the lent transactions, and one of the lent workers: a chain of std's methods each, with its own stand-in.
 ghost use Rattle.std.specs.Prelude.{◌≡◌};
 ghost use Rattle.engine.specs.Lent.{row_of, worker_of};
 
