@@ -35,7 +35,8 @@ pub fn run_all<C: Cases, R: Files + Print>(rt: &R) -> io::Result<()> {
     Ok(())
 }
 
-// The 16-bit number from `at` on.
+// The 16-bit number from `at` on. This and the two below stand in `packed` too, for another length: they ask that the
+// bytes are there, and no public function asks anything.
 fn word_at(b: &[u8; 71], at: usize) -> u16
     requires { at + 2 ≤ 71 }
     ensures { result ≡ word_at b.now at }

@@ -7,7 +7,7 @@ ghost use Rattle.counters.specs.Working.{place_in, contents_in, written, start_o
 use packed::Transaction;
 
 // The transaction's own copy: of each declared read what it holds now, of each declared write the new contents and
-// whether an action reached it.
+// whether an action reached it. Contents and marks are two arrays, as a decision has them and as the definitions say.
 #[derive(Clone, Copy, Debug, PartialEq, Eq)]
 pub struct WorkingCopy {
     pub values: [u64; 4],

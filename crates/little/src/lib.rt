@@ -1,4 +1,5 @@
-// Numbers of several bytes, the low byte first.
+// Numbers of several bytes, the low byte first. A function for each width: one that is generic in it would need a trait
+// that only names the methods of std again.
 #![tactic(auto)]
 
 ghost use Rattle.std.specs.Prelude.{◌≡◌};

@@ -12,13 +12,14 @@ impl From<Fields> for Action {
     ghost from_gives = { λ x action. action ≡ action_of x };
 
     fn from(x: Fields) -> Action {
-        match x.kind {
-            1 => Action::Set { r: x.r, c: x.c },
-            2 => Action::Add { r: x.r, c: x.c },
-            3 => Action::Take { r: x.r, c: x.c },
-            4 => Action::Copy { r: x.r, s: x.s },
-            5 => Action::Move { r: x.r, s: x.s },
-            6 => Action::Floor { r: x.r, c: x.c },
+        let Fields { kind, r, s, c } = x;
+        match kind {
+            1 => Action::Set { r, c },
+            2 => Action::Add { r, c },
+            3 => Action::Take { r, c },
+            4 => Action::Copy { r, s },
+            5 => Action::Move { r, s },
+            6 => Action::Floor { r, c },
             _ => Action::Nothing,
         }
     }

@@ -78,7 +78,7 @@ pub(crate) fn encoded(t: Transaction) -> [u8; 88]
     paste(&mut b, 0, &[t.readcount, t.writecount, t.actioncount]);
     paste_set(&mut b, 4, t.reads);
     paste_set(&mut b, 12, t.writes);
-    // One by one: a loop needs an invariant, and a law of the actions that are left.
+    // One by one: a loop would need an invariant, and a law of the actions that are left, for four lines.
     paste_action(&mut b, 24, t.actions[0]);
     paste_action(&mut b, 40, t.actions[1]);
     paste_action(&mut b, 56, t.actions[2]);

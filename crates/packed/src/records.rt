@@ -52,7 +52,8 @@ fn uses_too_large(action: Action, n: usize) -> bool
     }
 }
 
-// An action within the count uses a record that is N or more.
+// An action within the count uses a record that is N or more. By index, here and in `undeclared`: the actions are bytes
+// of the entry, and a list of the four would decode those past the count too.
 pub(crate) fn action_too_large(b: &Entry, n: usize) -> bool
     requires { byte_at b.now 2 ≤ 4 }
     ensures { result ≡ some_action (uses_too_large n) b.now }
@@ -116,10 +117,7 @@ fn place_in(set: &[u16; 4], number: u16) -> Option<usize>
 fn is_unlisted(set: &[u16; 4], count: u8, number: u16) -> bool
     ensures { result ≡ unlisted set.now count number }
 {
-    match place_in(set, number) {
-        Some(place) => usize::from(count) <= place,
-        None => true,
-    }
+    place_in(set, number).is_none_or(|place| usize::from(count) <= place)
 }
 
 #[tactic(auto, unfolding(crate::specs::Kinds::uses_of))]

@@ -21,7 +21,7 @@ pub struct Part<F> {
     pub length: usize,
 }
 
-// P and W, and whether only the counts are printed.
+// P and W, and whether only the counts are printed: an enum of two would say no more than the name.
 #[derive(Clone, Copy)]
 pub struct Setup {
     pub partitions: usize,

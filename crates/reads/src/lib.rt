@@ -8,6 +8,7 @@ use std::io::{ErrorKind, Read};
 
 // Reads until the space is full or the input ends, and answers how many bytes it put at the space's start. The only
 // error is the input's own; after it some of the space may be written, and the input has been read to where it failed.
+// A count and not the part of the space: callers go on with the whole space, or with what was in it before.
 pub fn fill<F: Read>(input: &mut F, space: &mut [u8]) -> io::Result<usize>
     ensures within { IfOk result (λ n. n ≤ length space.new) }
     ensures kept { length space.new ≡ length space.old }

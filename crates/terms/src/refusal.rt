@@ -71,6 +71,7 @@ impl Place {
 }
 
 // A check of a chain: the transaction at this index is refused where the fault is there; `?` goes on where it is not.
+// The fault is what a test answers, as for `then_some`, and no choice between two functions.
 pub fn refuse_if(fault: bool, refusal: Refusal, transaction: usize) -> Verdict
     ensures { result ≡ refuse_if fault refusal transaction (Ok tt) }
 {
