@@ -1,5 +1,6 @@
 -- Laws of refusal 14.
-use Rattle.std.specs.Prelude.{ℕ, ◌+◌, ◌^◌, ◌≤◌, ◌<◌, Bool, true, false, ◌&&◌, ◌||◌, not, [], ◌∷◌, ◌≡◌, refl, ltb, leb, eqb}
+use Rattle.std.specs.Prelude.{ℕ, ◌+◌, ◌^◌, ◌≤◌, ◌<◌, Bool, true, false, ◌&&◌, ◌||◌, not, []}
+use Rattle.std.specs.Prelude.{◌∷◌, ◌≡◌, refl, ltb, leb, eqb}
 use Rattle.std.specs.Prelude.{Option, None, Some, is_some}
 use Rattle.std.specs.Option.{SomeIff}
 use Rattle.std.proofs.Math.Decide.{dec_lt}

@@ -11,7 +11,8 @@ loop-j-preserved c =
     elim c.if-mark.branch [
       | then-mark+else-below-carries w ↦
           let on =
-          marked_on carried c.args.carries c.loop-j.j w.if-mark.true (λ same. w.if-below-carries.false (counted ∙ same)) in
+          marked_on carried c.args.carries c.loop-j.j w.if-mark.true
+          (λ same. w.if-below-carries.false (counted ∙ same)) in
           (rw (w.below-is, counted) on.0, sym on.1 ∙ found)
       | else-mark w ↦
           let on = unmarked_on carried c.args.carries c.loop-j.j w.if-mark.false in

@@ -16,4 +16,5 @@ returns c =
     c.any.ensures.ran
     (YieldsList-from_enumerate (YieldsList-from_slice numbers.placed cc) cc)
     (λ x b q k. search rules)
-    ∙ any_entry (λ p placed. ltb numbers.size placed || (leb numbers.partitions p && not (eqb placed 0))) 0 8 numbers.placed (search rules)
+    ∙ any_entry (λ p placed. ltb numbers.size placed || (leb numbers.partitions p && not (eqb placed 0))) 0 8
+    numbers.placed (search rules)

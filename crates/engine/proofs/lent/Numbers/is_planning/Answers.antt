@@ -16,4 +16,5 @@ returns c =
     c.any.ensures.ran
     (YieldsList-from_enumerate (YieldsList-from_slice numbers.placed cc) cc)
     (λ x b q k. search rules)
-    ∙ any_entry (λ p placed. ltb p numbers.partitions && not (eqb placed numbers.size)) 0 8 numbers.placed (search rules)
+    ∙ any_entry (λ p placed. ltb p numbers.partitions && not (eqb placed numbers.size)) 0 8 numbers.placed
+    (search rules)
