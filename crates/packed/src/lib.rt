@@ -36,8 +36,8 @@ pub struct ActionRow {
     pub action: Action,
 }
 
-// What an entry means. Entries of the sets and of the actions past their counts are zero, or `Nothing`. The counts stand
-// beside whole arrays, since packing is to refuse a meaning by 4 for what a slice or an option could not hold.
+// What an entry means. Entries of the sets and of the actions past their counts are zero, or `Nothing`. The counts
+// stand beside whole arrays, since packing is to refuse a meaning by 4 for what a slice or an option could not hold.
 #[derive(Clone, Copy, Debug, PartialEq, Eq)]
 pub struct Transaction {
     pub readcount: u8,
