@@ -123,7 +123,7 @@ setting_of s log stored =
     }
 
 module _ (s : State) (log stored : List ℕ) (newest versions results : ℕ)
-    (accepts : open_verdict s log newest versions results ≡ (Ok _)) (as_many : length stored ≡ s.records) where
+    (accepts : open_verdict s log newest versions results ≡ Ok tt) (as_many : length stored ≡ s.records) where
   open_facts : Opens s log newest versions results accepts
   open_facts = opens s log newest versions results accepts
 
@@ -225,7 +225,7 @@ module _ (s : State) (log stored : List ℕ) (newest versions results : ℕ)
 -- ---- the engine just opened
 
 module _ (s : State) (log stored : List ℕ) (newest : List ℕ) (table : List Version) (results : List ℕ)
-    (accepts : open_verdict s log (length newest) (length table) (length results) ≡ (Ok _))
+    (accepts : open_verdict s log (length newest) (length table) (length results) ≡ Ok tt)
     (eight : length s.placed ≡ 8) where
   facts : Opens s log (length newest) (length table) (length results) accepts
   facts = opens s log (length newest) (length table) (length results) accepts

@@ -70,7 +70,7 @@ opening_verdict log e accepted = go (verdict_of log e) refl accepted
     go (Ok tt) is passed = is
     go (Err why) is passed = not_both (sym passed)
 
-module _ (log : List ℕ) (e : Engine) (eight : length e.state.placed ≡ 8) (accepts : verdict_of log e ≡ (Ok _)) where
+module _ (log : List ℕ) (e : Engine) (eight : length e.state.placed ≡ 8) (accepts : verdict_of log e ≡ Ok tt) where
   -- the engine just opened
   abbrev pub start : Engine
   start = just_opened e.state log e.records e.newest e.versions e.results accepts eight
@@ -212,7 +212,7 @@ module _ (log : List ℕ) (e : Engine) (eight : length e.state.placed ≡ 8) (ac
 
 module _ (log : List ℕ) (e : Engine) (eight : length e.state.placed ≡ 8)
     (opens : is_accepted (opening log e).answer ≡ true) (offers : List Offer) where
-  accepts : verdict_of log e ≡ (Ok _)
+  accepts : verdict_of log e ≡ Ok tt
   accepts = opening_verdict log e opens
 
   now : (opening log e).engine ≡ start log e eight accepts

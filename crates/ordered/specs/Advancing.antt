@@ -102,7 +102,7 @@ module _ (B : order.Batch ℕ Outcome) (o : State) (log stored : List ℕ) (d : 
             next = with_state e (with_worker e.state w (with_value worker k x));
             after = executed m (machine.with_work m.execution w (machine.reading i (suc k) (values ++ (x ∷ []))));
             replies =
-                moves B o log stored d e m stands sound over w i there held (goes_on (with_value worker k x))
+                moves B o log stored d e m stands sound over w i there held (Ok (goes_on (with_value worker k x)))
                 (next ∙ ap (reads worker k) shown);
             is_step = machine.executes over (machine.reads w_there work_is more finds_there);
             stands =
@@ -127,7 +127,7 @@ module _ (B : order.Batch ℕ Outcome) (o : State) (log stored : List ℕ) (d : 
             next = with_state e (with_worker (with_row e.state i (row Unprocessed)) w idle_worker);
             after = executed m (machine.dropped m.execution w i);
             replies =
-                moves B o log stored d e m stands sound over w i there held (waits_for (m.plan.begin a j))
+                moves B o log stored d e m stands sound over w i there held (Ok (waits_for (m.plan.begin a j)))
                 (next ∙ ap (reads worker k) shown);
             is_step = machine.executes over (machine.read_waits w_there work_is more finds_there);
             stands = dropped_stands o stored d.numbers e m stands w i there inside;
@@ -161,7 +161,7 @@ module _ (B : order.Batch ℕ Outcome) (o : State) (log stored : List ℕ) (d : 
         after = executed m (machine.completed m.execution w i (B.decide i values).outcome values);
         replies =
             moves B o log stored d e m stands sound over w i there held
-            (unfilled None idle_worker (Some (row (Complete (B.decide i values).outcome))) (Some (in_four values)))
+            (Ok (unfilled None idle_worker (Some (row (Complete (B.decide i values).outcome))) (Some (in_four values))))
             (decides_next none ∙ ap Ok completes);
         is_step = machine.executes over (machine.decides_last w_there work_is none no_writes);
         stands =
@@ -196,7 +196,7 @@ module _ (B : order.Batch ℕ Outcome) (o : State) (log stored : List ℕ) (d : 
             (machine.with_work m.execution w
             (machine.decided i (machine.decided_on values (B.decide i values))));
         replies =
-            moves B o log stored d e m stands sound over w i there held (goes_on (with_decision worker decision))
+            moves B o log stored d e m stands sound over w i there held (Ok (goes_on (with_decision worker decision)))
             (decides_next none ∙ ap Ok goes_on_lem);
         is_step = machine.executes over (machine.decides w_there work_is none some_write);
         stands =

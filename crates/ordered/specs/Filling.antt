@@ -142,7 +142,8 @@ module _ (B : order.Batch ℕ Outcome) (o : State) (log stored : List ℕ) (d : 
                 executed m
                 (machine.with_work m.execution w (machine.decided i (machine.after_carry x mark.place y)));
             replies =
-                moves B o log stored d e m stands sound over w i there held (goes_on (with_carry worker mark.place y))
+                moves B o log stored d e m stands sound over w i there held
+                (Ok (goes_on (with_carry worker mark.place y)))
                 (next ∙ ap (carries worker mark.place) shown);
             is_step = machine.executes over (machine.carries w_there work_is next_is_lem finds_there);
             stands =
@@ -179,7 +180,7 @@ module _ (B : order.Batch ℕ Outcome) (o : State) (log stored : List ℕ) (d : 
             next = with_state e (with_worker (with_row e.state i (row Unprocessed)) w idle_worker);
             after = executed m (machine.dropped m.execution w i);
             replies =
-                moves B o log stored d e m stands sound over w i there held (waits_for (m.plan.begin a b))
+                moves B o log stored d e m stands sound over w i there held (Ok (waits_for (m.plan.begin a b)))
                 (next ∙ ap (carries worker mark.place) shown);
             is_step = machine.executes over (machine.carry_waits w_there work_is next_is_lem finds_there);
             stands = dropped_stands o stored d.numbers e m stands w i there inside;
@@ -230,7 +231,7 @@ module _ (B : order.Batch ℕ Outcome) (o : State) (log stored : List ℕ) (d : 
             (machine.decided i (machine.after_fill x)));
         replies =
             moves B o log stored d e m stands sound over w i there held
-            (with_fill (goes_on onward) (slot_of i x.fills) (x.contents x.fills))
+            (Ok (with_fill (goes_on onward) (slot_of i x.fills) (x.contents x.fills)))
             (fills_next all ∙ ap (λ move. Ok (with_fill move (slot_of i x.fills) (x.contents x.fills))) goes_on_lem);
         is_step = machine.executes over (machine.fills w_there work_is all more);
         stands =
@@ -273,9 +274,9 @@ module _ (B : order.Batch ℕ Outcome) (o : State) (log stored : List ℕ) (d : 
             x.values_read);
         replies =
             moves B o log stored d e m stands sound over w i there held
-            (with_fill
+            (Ok (with_fill
             (unfilled None idle_worker (Some (row (Complete x.outcome))) (Some (in_four x.values_read)))
-            (slot_of i x.fills) (x.contents x.fills))
+            (slot_of i x.fills) (x.contents x.fills)))
             (fills_next all ∙ ap (λ move. Ok (with_fill move (slot_of i x.fills) (x.contents x.fills))) completes);
         is_step = machine.executes over (machine.fills_last w_there work_is all last);
         stands =

@@ -2,7 +2,7 @@
 -- the worker's act comes to.
 use Prim.Native.Nat.{ℕ, ◌+◌, ◌*◌, ◌≤◌, ◌<◌}
 use Rattle.std.proofs.Math.Option.{some}
-use Rattle.std.specs.Prelude.{◌≡◌, Result, Ok, length, get_or}
+use Rattle.std.specs.Prelude.{◌≡◌, Result, length, get_or}
 use Rattle.std.proofs.Math.Path.{refl}
 use Rattle.std.proofs.Common.{ap, ◌∙◌, arith}
 use mathlib.Core.List.{List}
@@ -117,9 +117,9 @@ module _ (B : order.Batch ℕ Outcome) (o : State) (log stored : List ℕ) (d : 
       (look_of e.state i e.records e.newest e.versions)) (meaning_same B o log stored d e m stands sound i)
 
   -- the move is carried out
-  pub moves : (x : Move) → move ≡ Ok x
+  pub moves : (x : Result Move Refused) → move ≡ x
       → offer_to log e (store.step (machine.act (machine.advance w)))
-      ≡ reply_to (running.after_advance e (carried_out (Ok x) e.state w i e.versions e.results))
+      ≡ reply_to (running.after_advance e (carried_out x e.state w i e.versions e.results))
   unfolding offered advance_of
   moves x is =
       let accepted = advance_accepted B o log stored d e m stands sound w i over there below held in
