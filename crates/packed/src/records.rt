@@ -52,12 +52,7 @@ pub(crate) fn action_too_large(b: &Entry, n: usize) -> bool
     requires { byte_at b.now 2 ≤ 4 }
     ensures { result ≡ some_action (uses_too_large n) b.now }
 {
-    for k in 0..usize::from(b[2]) {
-        if uses_too_large(decode::action_at(b, 24 + 16 * k), n) {
-            return true;
-        }
-    }
-    false
+    (0..usize::from(b[2])).any(|k| uses_too_large(decode::action_at(b, 24 + 16 * k), n))
 }
 
 // Refusal 5.
