@@ -15,8 +15,8 @@ pub struct WorkingCopy {
     pub reached: [bool; 4],
 }
 
-// The place of a record among the first `count` of a set. By place, in one test: `position`, and the count compared after
-// it, takes 28 instructions more for each decision.
+// The place of a record among the first `count` of a set. By place, in one test: `position`, and the count compared
+// after it, takes 28 instructions more for each decision.
 fn place_in(set: &[u16; 4], count: u8, number: u16) -> Option<usize>
     ensures { result ≡ place_found (place_in set.now count number) }
 {

@@ -77,7 +77,8 @@ or_three true b c = refl
 or_three false b c = refl
 
 joined_from : (test : Fields → Bool) (b : List ℕ) (k n : ℕ)
-    → (some_of test b k || list_any (λ k. test (fields_at b (24 + 16 * k))) (range_with_len k n)) ≡ some_of test b (k + n)
+    → (some_of test b k || list_any (λ k. test (fields_at b (24 + 16 * k))) (range_with_len k n))
+    ≡ some_of test b (k + n)
 joined_from test b k zero =
     let same : k + 0 ≡ k = omega arith in
     rw same (sym (or_false (some_of test b k)))

@@ -25,4 +25,5 @@ returns-else-ascends_below c =
     let n = c.args.n in
     let reads : c.ascends_below.result ≡ set_proper n (set_at b 4) (byte_at b 0) =
     rw (c.ascends_below.ensures, c.within.ensures, c.set_at-reads.ensures) (ascends_within (set_at b 4) _ n refl) in
-    c.if-ascends_below.false ∙ ap (λ a. a && set_proper n (set_at b 12) (byte_at b 1)) (sym c.if-ascends_below.false ∙ reads)
+    c.if-ascends_below.false
+    ∙ ap (λ a. a && set_proper n (set_at b 12) (byte_at b 1)) (sym c.if-ascends_below.false ∙ reads)
