@@ -15,7 +15,8 @@ pub struct WorkingCopy {
     pub reached: [bool; 4],
 }
 
-// The place of a record among the first `count` of a set.
+// The place of a record among the first `count` of a set. By place, in one test: `position`, and the count compared
+// after it, takes 28 instructions more for each decision.
 fn place_in(set: &[u16; 4], count: u8, number: u16) -> Option<usize>
     ensures { result ≡ place_found (place_in set.now count number) }
 {
@@ -38,10 +39,7 @@ impl WorkingCopy {
     pub(crate) fn contents_in(&self, meaning: &Transaction, number: u16) -> u64
         ensures { result ≡ contents_in meaning.now self.now number }
     {
-        match place_in(&meaning.reads, meaning.readcount, number) {
-            Some(place) => self.values[place],
-            None => 0,
-        }
+        place_in(&meaning.reads, meaning.readcount, number).map_or(0, |place| self.values[place])
     }
 
     // A record becomes `value`.

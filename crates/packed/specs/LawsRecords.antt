@@ -5,6 +5,7 @@ use Rattle.std.proofs.Math.Bool.{true}
 use Rattle.std.proofs.Math.Path.{refl, sym}
 use Rattle.std.proofs.Common.{ap, ◌∙◌, arith, add-one}
 use Rattle.std.proofs.Math.Decide.{ℕ_discrete}
+use Rattle.std.specs.List.{list_any, range_with_len}
 use Rattle.packed.specs.Fields.{byte_at, fields_at}
 use Rattle.packed.specs.Records.{some_of, some_action}
 use Rattle.packed.specs.declared.fields.Fields.{Fields}
@@ -69,3 +70,29 @@ module _ (test : Fields → Bool) (b : List ℕ) where
       → x ≡ fields_at b (24 + 16 * k) → answer ≡ test x → answer ≡ true → true ≡ some_action test b
   found k counted below read told holds =
       sym (found_below (byte_at b 2) k (omega arith) (ap test (sym read) ∙ sym told ∙ holds))
+
+-- The actions from one on joined to those before it.
+or_three : (a b c : Bool) → (a || (b || c)) ≡ ((a || b) || c)
+or_three true b c = refl
+or_three false b c = refl
+
+joined_from : (test : Fields → Bool) (b : List ℕ) (k n : ℕ)
+    → (some_of test b k || list_any (λ k. test (fields_at b (24 + 16 * k))) (range_with_len k n))
+    ≡ some_of test b (k + n)
+joined_from test b k zero =
+    let same : k + 0 ≡ k = omega arith in
+    rw same (sym (or_false (some_of test b k)))
+joined_from test b k (suc n) =
+    let next : k + 1 + n ≡ k + suc n = omega arith in
+    let rest = list_any (λ k. test (fields_at b (24 + 16 * k))) (range_with_len (k + 1) n) in
+    or_three (some_of test b k) (test (fields_at b (24 + 16 * k))) rest
+    ∙ ap (λ a. a || rest) (one_joined test b k refl refl refl)
+    ∙ joined_from test b (k + 1) n
+    ∙ ap (some_of test b) next
+
+pub all_actions : (test : Fields → Bool) (b : List ℕ) (n : ℕ)
+    → list_any (λ k. test (fields_at b (24 + 16 * k))) (range_with_len 0 n) ≡ some_of test b n
+all_actions test b n =
+    let all : 0 + n ≡ n = omega arith in
+    let some = list_any (λ k. test (fields_at b (24 + 16 * k))) (range_with_len 0 n) in
+    ap (λ a. a || some) (none_yet test b) ∙ joined_from test b 0 n ∙ ap (some_of test b) all

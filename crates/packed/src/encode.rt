@@ -1,7 +1,7 @@
 // The bytes of a meaning, proper or not.
 ghost use Rattle.std.specs.Prelude.{◌≡◌, ◌+◌, ◌≤◌, length};
+ghost use Rattle.std.proofs.Math.Seq.{paste};
 ghost use Rattle.packed.specs.Encode.{fields as fieldsWith, fields_of, action_bytes, set_bytes, encode};
-ghost use Rattle.packed.specs.LawsEncode.{pasted};
 
 use crate::{Action, ActionRow, Transaction, fields};
 use fields::Fields;
@@ -50,23 +50,21 @@ fn set_bytes(set: [u16; 4]) -> [u8; 8]
 // Puts some bytes into others from `at` on.
 fn paste(b: &mut [u8], at: usize, part: &[u8])
     requires { at + length part.now ≤ length b.old }
-    ensures { b.new ≡ pasted at part.now b.old }
+    ensures { b.new ≡ paste b.old at part.now (length part.now) }
 {
-    for (k, &byte) in part.iter().enumerate() {
-        b[at + k] = byte;
-    }
+    b[at..at + part.len()].copy_from_slice(part);
 }
 
 fn paste_set(b: &mut [u8], at: usize, set: [u16; 4])
     requires { at + 8 ≤ length b.old }
-    ensures { b.new ≡ pasted at (set_bytes set) b.old }
+    ensures { b.new ≡ paste b.old at (set_bytes set) 8 }
 {
     paste(b, at, &set_bytes(set));
 }
 
 fn paste_action(b: &mut [u8], at: usize, row: ActionRow)
     requires { at + 16 ≤ length b.old }
-    ensures { b.new ≡ pasted at (action_bytes (fields_of row.action)) b.old }
+    ensures { b.new ≡ paste b.old at (action_bytes (fields_of row.action)) 16 }
 {
     paste(b, at, &action_bytes(Fields::from(row.action)));
 }

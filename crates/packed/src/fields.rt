@@ -1,4 +1,6 @@
-// The numbers that stand in the bytes of an entry.
+// The numbers that stand in the bytes of an entry. They are looked up by their offsets in it, which are document 01's
+// and by which the definitions name them, and so the functions here, in `decode`, `encode` and `form` ask that the bytes
+// are there: a part of 8 or 16 bytes would need the same bound where it is cut, and a law of the definition in it.
 ghost use Rattle.std.specs.Prelude.{◌≡◌, ◌+◌, ◌≤◌, length};
 ghost use Rattle.packed.specs.Fields.{word_at, long_at, set_at, fields_at};
 

@@ -4,8 +4,8 @@ ghost use Rattle.std.specs.List.{list_any, position};
 ghost use Rattle.packed.specs.Encode.{fields_of};
 ghost use Rattle.packed.specs.Fields.{byte_at};
 ghost use Rattle.packed.specs.LawsMeaning.{first_undeclared, ascends_from};
-ghost use Rattle.packed.specs.LawsSets.{set_proper, sets_proper};
-ghost use Rattle.packed.specs.Records.{some_action, too_large, set_too_large, uses_too_large, no_such_record};
+ghost use Rattle.packed.specs.LawsSets.{sets_proper};
+ghost use Rattle.packed.specs.Records.{some_action, too_large, uses_too_large, no_such_record};
 ghost use Rattle.packed.specs.Records.{unlisted, reads_unlisted, undeclared_read, writes_unlisted, undeclared_write};
 
 use crate::{Action, Entry, decode, fields};
@@ -31,13 +31,6 @@ fn some_too_large(records: &[u16], n: usize) -> bool
     records.iter().any(|&number| too_large(number, n))
 }
 
-#[tactic(auto, using(crate::specs::LawsMeaning::any_within))]
-fn set_too_large(set: &[u16; 4], count: u8, n: usize) -> bool
-    ensures { result ≡ set_too_large n set.now count }
-{
-    some_too_large(within(set, count), n)
-}
-
 #[tactic(auto, using(crate::specs::LawsRecords::or_same), unfolding(crate::specs::Kinds::uses_of))]
 fn uses_too_large(action: Action, n: usize) -> bool
     ensures { result ≡ uses_too_large n (fields_of action) }
@@ -53,28 +46,26 @@ fn uses_too_large(action: Action, n: usize) -> bool
 }
 
 // An action within the count uses a record that is N or more. By index, here and in `undeclared`: the actions are bytes
-// of the entry, and a list of the four would decode those past the count too.
+// of the entry, and a list of the four would decode those past the count too. Check 4 has refused a count above 4, of
+// which the definition asks for actions past the entry's end: so these three functions ask for one of at most 4.
 pub(crate) fn action_too_large(b: &Entry, n: usize) -> bool
     requires { byte_at b.now 2 ≤ 4 }
     ensures { result ≡ some_action (uses_too_large n) b.now }
 {
-    for k in 0..usize::from(b[2]) {
-        if uses_too_large(decode::action_at(b, 24 + 16 * k), n) {
-            return true;
-        }
-    }
-    false
+    (0..usize::from(b[2])).any(|k| uses_too_large(decode::action_at(b, 24 + 16 * k), n))
 }
 
 // Refusal 5.
-#[tactic(auto, unfolding(crate::specs::Records::no_such_record))]
+#[tactic(auto, using(crate::specs::LawsMeaning::any_within), unfolding(crate::specs::Records::no_such_record))]
 pub(crate) fn has_no_such_record(b: &Entry, n: usize) -> bool
     requires { byte_at b.now 2 ≤ 4 }
     ensures { result ≡ no_such_record n b.now }
 {
     let reads = fields::set_at(b, 4);
     let writes = fields::set_at(b, 12);
-    set_too_large(&reads, b[0], n) || set_too_large(&writes, b[1], n) || action_too_large(b, n)
+    some_too_large(within(&reads, b[0]), n)
+        || some_too_large(within(&writes, b[1]), n)
+        || action_too_large(b, n)
 }
 
 // The records ascend strictly to a last one below n.
@@ -91,20 +82,13 @@ fn ascends_below(records: &[u16], n: usize) -> bool
     least <= n
 }
 
-// Neither 5 nor 6 is met in the set.
-fn set_proper(set: &[u16; 4], count: u8, n: usize) -> bool
-    ensures { result ≡ set_proper n set.now count }
-{
-    ascends_below(within(set, count), n)
-}
-
-// Nor in both.
+// Neither 5 nor 6 is met in the sets.
 pub(crate) fn sets_proper(b: &Entry, n: usize) -> bool
     ensures { result ≡ sets_proper n b.now }
 {
     let reads = fields::set_at(b, 4);
     let writes = fields::set_at(b, 12);
-    set_proper(&reads, b[0], n) && set_proper(&writes, b[1], n)
+    ascends_below(within(&reads, b[0]), n) && ascends_below(within(&writes, b[1]), n)
 }
 
 fn place_in(set: &[u16; 4], number: u16) -> Option<usize>
@@ -113,7 +97,8 @@ fn place_in(set: &[u16; 4], number: u16) -> Option<usize>
     set.iter().position(|&listed| listed == number)
 }
 
-// The record is not declared: its first place in the set is not within the count, or there is none.
+// The record is not declared: its first place in the set is not within the count, or there is none. Set and count are
+// the two that the definition `unlisted` has, here and in the two below; a search of four has no bound to look up.
 fn is_unlisted(set: &[u16; 4], count: u8, number: u16) -> bool
     ensures { result ≡ unlisted set.now count number }
 {

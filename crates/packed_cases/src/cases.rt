@@ -1,6 +1,8 @@
 // The layout of a case in the file: see reference/README.md.
 ghost use Rattle.std.specs.Prelude.{◌+◌, ◌≤◌};
 
+use std::array;
+
 // What is asked of the bytes that a case lends; a number that is neither 1 nor 2 asks for an entry.
 #[derive(Clone, Copy)]
 pub enum Asked {
@@ -28,12 +30,12 @@ pub struct Head {
     pub length: u16,
 }
 
+// The 64-bit number from `at` on. It stands in `packed` and `case_files` too, for other lengths: it asks that the bytes
+// are there, and no public function asks anything.
 fn long_at(head: &[u8; 19], at: usize) -> u64
     requires { at + 8 ≤ 19 }
 {
-    let mut long = [0; 8];
-    long.copy_from_slice(&head[at..at + 8]);
-    little::long(long)
+    little::long(array::from_fn(|k| head[at + k]))
 }
 
 impl From<[u8; 19]> for Head {

@@ -38,8 +38,8 @@ fn pack_case(
     Ok(Some(()))
 }
 
-// A case that lends bytes: they follow its head.
-fn lent_case(
+// A case that unpacks: the bytes that it lends follow its head.
+fn unpack_case(
     rt: &impl Print,
     file: &mut impl Read,
     lent: &mut [u8],
@@ -48,16 +48,23 @@ fn lent_case(
     if filled(file, lent)?.is_none() {
         return Ok(None);
     }
-    match head.asked {
-        Asked::Unpack => {
-            print!(rt; "unpack ")?;
-            print::unpacked(rt, packed::unpack(lent, head.n))?;
-        }
-        _ => {
-            print!(rt; "entry ")?;
-            print::unpacked(rt, packed::unpack_at(lent, head.index, head.n))?;
-        }
+    print!(rt; "unpack ")?;
+    print::unpacked(rt, packed::unpack(lent, head.n))?;
+    Ok(Some(()))
+}
+
+// A case of an entry: the log that it lends follows its head.
+fn entry_case(
+    rt: &impl Print,
+    file: &mut impl Read,
+    lent: &mut [u8],
+    head: Head,
+) -> io::Result<Option<()>> {
+    if filled(file, lent)?.is_none() {
+        return Ok(None);
     }
+    print!(rt; "entry ")?;
+    print::unpacked(rt, packed::unpack_at(lent, head.index, head.n))?;
     Ok(Some(()))
 }
 
@@ -75,8 +82,9 @@ impl Cases for Transactions {
         let mut space = [170; ROOM];
         let lent = &mut space[..usize::from(head.length)];
         match head.asked {
+            Asked::Unpack => unpack_case(rt, file, lent, head),
             Asked::Pack => pack_case(rt, file, lent, head),
-            _ => lent_case(rt, file, lent, head),
+            Asked::Entry => entry_case(rt, file, lent, head),
         }
     }
 }

@@ -1,10 +1,11 @@
 -- The place of a record as the code finds it, and what its being there or not tells.
-use Rattle.std.proofs.Common.{◌≡◌, refl, ℕ, ◌<◌, ◌≤◌, Bool, true, false, cond, List, [], ◌∷◌, length, ltb, set}
-use Rattle.std.proofs.Common.{arith, ltb-true}
+use Rattle.std.proofs.Common.{◌≡◌, refl, ℕ, ◌<◌, ◌≤◌, Bool, true, false, cond, List, [], ◌∷◌, length, ltb, set, get_or}
+use Rattle.std.proofs.Common.{arith, ap, sym, ltb-true}
 use Rattle.std.proofs.lemmas.Bool.{ltb-false}
-use Rattle.std.proofs.lemmas.List.{set_past}
+use Rattle.std.proofs.lemmas.List.{set_past, get_or_past}
 use Rattle.std.specs.Prelude.{Option, Some, None}
 use Rattle.std.specs.List.{find}
+use Rattle.std.specs.Option.{option_map_or}
 use Rattle.counters.specs.LawsPlaces.{place_found, first_of}
 use Rattle.counters.specs.Working.{stands_at, place_in}
 
@@ -52,3 +53,12 @@ pub none_stored : {A : Type 0} (list : List A) (number : ℕ) (value : A) → le
 none_stored list number value four same =
     let past = none_found number same in
     set_past list number value (omega arith)
+
+-- what stands at the place that the code has found, and 0 where it has found none
+pub held_at : {found : Option ℕ} (values : List ℕ) (number : ℕ) → length values ≡ 4 → found ≡ place_found number
+    → option_map_or (λ place. get_or values place 0) found 0 ≡ get_or values number 0
+held_at {found = Some place} values number four same =
+    ap (λ at. get_or values at 0) (at_found place number same).0
+held_at {found = None} values number four same =
+    let past = none_found number same in
+    sym (get_or_past values number 0 (omega arith))

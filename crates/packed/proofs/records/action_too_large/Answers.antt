@@ -1,23 +1,17 @@
-use Rattle.std.proofs.Common.{refl, arith, ap, ◌∙◌}
-use Rattle.packed.specs.Encode.{fields_of}
+use Rattle.std.proofs.Common.{◌+◌, ◌*◌, ◌∙◌, rules, tests, arith}
+use Rattle.std.proofs.lemmas.Iterator.{YieldsList-from_range}
+use Rattle.std.proofs.lemmas.Iterator.Search.{any_from_yields_List}
+use Rattle.packed.specs.Fields.{byte_at, fields_at}
 use Rattle.packed.specs.LawsMeaning.{too_large_kept}
-use Rattle.packed.specs.LawsRecords.{none_yet, none_more, found}
+use Rattle.packed.specs.LawsRecords.{all_actions}
 use Rattle.packed.specs.Records.{uses_too_large}
 use Rattle.packed.proofs.records.action_too_large.Goals as goal
 
-pub loop-k-init : goal.loop-k-init
-loop-k-init c = none_yet _ _
-
-pub returns-then-uses_too_large : goal.returns-then-uses_too_large
-returns-then-uses_too_large c =
+pub returns : goal.returns
+returns c =
+    let b = c.args.b.now in
     let n = c.args.n in
-    let action = ap (λ action. uses_too_large n (fields_of action)) c.action_at.ensures in
-    let told = c.uses_too_large.ensures ∙ action ∙ too_large_kept n _ in
-    found _ _ c.loop-k.k c.from-k-end.ensures (omega arith) refl told c.if-uses_too_large.true
-
-pub loop-k-preserved : goal.loop-k-preserved
-loop-k-preserved c =
-    let n = c.args.n in
-    let action = ap (λ action. uses_too_large n (fields_of action)) c.action_at.ensures in
-    let told = c.uses_too_large.ensures ∙ action ∙ too_large_kept n _ in
-    none_more _ _ c.loop-k.k c.loop-k.invariant refl told c.if-uses_too_large.false
+    any_from_yields_List (λ k. uses_too_large n (fields_at b (24 + 16 * k))) _ _ c.any.result c.any.ensures.ran
+    (YieldsList-from_range 0 (byte_at b 2) (byte_at b 2) (search rules) (omega arith))
+    (λ x b q k. search (rules, tests, too_large_kept))
+    ∙ all_actions (uses_too_large n) b (byte_at b 2)
