@@ -29,7 +29,7 @@ pub fn newest_sound(versions: &[Version], newest: &[u16], bound: usize) -> bool
 pub fn newest_slot(newest: &[u16], number: usize) -> Option<usize>
     ensures { result ≡ slot_named (slot_of newest.now number) }
 {
-    table::slot(newest.get(number).copied().unwrap_or(terms::NO_SLOT))
+    newest.get(number).and_then(|&named| table::slot(named))
 }
 
 // "Each record with a newest version takes its contents." A record that the newest-version table does not have has no
