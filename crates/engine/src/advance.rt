@@ -77,7 +77,8 @@ pub(crate) fn fill_one(versions: &mut [Version], entry: Option<Fill>)
     }
 }
 
-// "four result numbers at 4i are the values read, then zeros", where the transaction completes.
+// "four result numbers at 4i are the values read, then zeros", where the transaction completes. By their numbers: of a
+// zip over `iter_mut` a proof does not know afterwards what the table holds.
 pub(crate) fn give_results(results: &mut [u64], transaction: u8, four: Option<[u64; 4]>)
     ensures { results.new ≡ with_results results.old (4 * transaction) four }
 {

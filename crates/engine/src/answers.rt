@@ -5,7 +5,7 @@ ghost use Rattle.engine.specs.Answers.{refuse_by};
 ghost use Rattle.engine.specs.declared.Answer.TheVariants.{Refused};
 
 use crate::{Answer, State, Stepped};
-use terms::{Place, Refusal, Refused};
+use terms::Refused;
 
 impl Answer {
     // The refusal number, and 0 for an accepted step or a wait.
@@ -41,11 +41,11 @@ impl Answer {
 
 impl State {
     // A refusal that was found, with its place.
-    pub(crate) fn refused_by(self, refusal: Refusal, place: Place) -> Stepped
-        ensures { result ≡ refuse_by self refusal place }
+    pub(crate) fn refused_by(self, why: Refused) -> Stepped
+        ensures { result ≡ refuse_by self why.refusal why.place }
     {
         Stepped {
-            answer: Answer::Refused(refusal, place),
+            answer: why.into(),
             state: self,
         }
     }

@@ -22,7 +22,7 @@ pub use sealing::seal;
 use terms::{BatchNumber, Position};
 
 // A state without its transactions and workers.
-#[derive(Clone, Copy)]
+#[derive(Clone, Copy, Debug, PartialEq, Eq)]
 pub struct Numbers {
     pub records: u16,
     pub partitions: u8,
@@ -51,7 +51,7 @@ impl Numbers {
 }
 
 // A step's answer and the numbers after it.
-#[derive(Clone, Copy)]
+#[derive(Clone, Copy, Debug, PartialEq, Eq)]
 pub struct Counted {
     pub answer: Answer,
     pub numbers: Numbers,

@@ -21,7 +21,7 @@ use terms::{BatchNumber, Place, Position, Refusal, Verdict};
 
 // "A transaction is Unprocessed, Executing by a named worker, or Complete with an outcome, committed or aborted." The
 // enum that document 01 names for it.
-#[derive(Clone, Copy)]
+#[derive(Clone, Copy, Debug, PartialEq, Eq)]
 pub enum Progress {
     Unprocessed,
     Executing(u8),
@@ -29,7 +29,7 @@ pub enum Progress {
 }
 
 // A transaction of the batch.
-#[derive(Clone, Copy)]
+#[derive(Clone, Copy, Debug, PartialEq, Eq)]
 pub struct Row {
     pub progress: Progress,
 }
@@ -37,7 +37,7 @@ pub struct Row {
 // "A worker is idle; or holds a transaction and the values read so far; or, once decided, also outcome, new contents,
 // carry marks and how many carries and fills are done." How far it is, with the counts that it then has: three cases,
 // and so neither an Option nor a Result.
-#[derive(Clone, Copy)]
+#[derive(Clone, Copy, Debug, PartialEq, Eq)]
 pub enum Phase {
     Idle,
     Reading {
@@ -53,7 +53,7 @@ pub enum Phase {
 
 // A worker; what its phase does not have is zero in the worker that a call makes idle, and is never looked at. Its
 // arrays side by side, and not one of structs: the definitions and the theorems name each.
-#[derive(Clone, Copy)]
+#[derive(Clone, Copy, Debug, PartialEq, Eq)]
 pub struct Worker {
     pub phase: Phase,
     pub transaction: u8,
@@ -65,7 +65,7 @@ pub struct Worker {
 // All that a store is besides the lent tables: N, P, W, F, n (0 when no batch is open), the batch number, each
 // partition's count of placed transactions, each transaction's state and each worker's work. The fields are document
 // 01's, and the definitions name each.
-#[derive(Clone, Copy)]
+#[derive(Clone, Copy, Debug, PartialEq, Eq)]
 pub struct State {
     pub records: u16,
     pub partitions: u8,
@@ -78,8 +78,9 @@ pub struct State {
     pub crew: [Worker; 8],
 }
 
-// What a call answers. No Result: "A wait is an accepted step", and has a position.
-#[derive(Clone, Copy)]
+// What a call answers. No Result: "A wait is an accepted step", and has a position. The refusal and its place apart, and
+// not one `Refused`: the theorems name the two.
+#[derive(Clone, Copy, Debug, PartialEq, Eq)]
 pub enum Answer {
     Accepted,
     Waits(Position),
@@ -87,14 +88,14 @@ pub enum Answer {
 }
 
 // A step's answer and the state after it.
-#[derive(Clone, Copy)]
+#[derive(Clone, Copy, Debug, PartialEq, Eq)]
 pub struct Stepped {
     pub answer: Answer,
     pub state: State,
 }
 
 // A store that was made, or the all-zero one. No Result: "A refused making .. hands back the all-zero store".
-#[derive(Clone, Copy)]
+#[derive(Clone, Copy, Debug, PartialEq, Eq)]
 pub struct Made {
     pub verdict: Verdict,
     pub state: State,

@@ -94,7 +94,7 @@ impl State {
                 results.fill(0);
                 self.opened(size).accepted()
             }
-            Err(why) => self.refused_by(why.refusal, why.place),
+            Err(why) => self.refused_by(why),
         }
     }
 }

@@ -19,7 +19,8 @@ pub struct Placing {
     pub count: u8,
 }
 
-// The record of write j, where it is declared and "Record r belongs to partition r mod P" says the partition.
+// The record of write j, where it is declared and "Record r belongs to partition r mod P" says the partition. With
+// `checked_rem` a P of 0 would have no partition, where the definition's r mod 0 is r: so P is asked to be above 0.
 fn written_at(partitions: u8, p: usize, meaning: &Transaction, j: usize) -> Option<u16>
     requires { (1 ≤ partitions) × (j < 4) }
     ensures { result ≡ written_at partitions p meaning.now j }
@@ -50,13 +51,10 @@ fn meets_wrong(transaction: u8, write: Option<u16>, j: usize, newest: &[u16]) ->
     requires { j < 4 }
     ensures { result ≡ meets_at transaction write j newest.now }
 {
-    match write {
-        Some(number) => {
-            let slot = tables::newest_of(newest, usize::from(number));
-            is_not_below(slot, 4 * usize::from(transaction) + j)
-        }
-        None => false,
-    }
+    write.is_some_and(|number| {
+        let slot = tables::newest_of(newest, usize::from(number));
+        is_not_below(slot, 4 * usize::from(transaction) + j)
+    })
 }
 
 // Some write meets a wrong slot.

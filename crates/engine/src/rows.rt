@@ -1,4 +1,4 @@
-// A transaction of the batch alone.
+// A transaction of the batch alone. `executing` and `complete` are a line each about different cases.
 ghost use Rattle.std.specs.Prelude.{◌≡◌};
 ghost use Rattle.engine.specs.Rows.{is_unprocessed, is_complete, executing_by, row as row_of};
 ghost use Rattle.engine.specs.declared.Progress.TheVariants.{Unprocessed, Executing, Complete};

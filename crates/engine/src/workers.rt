@@ -63,6 +63,7 @@ impl Worker {
         }
     }
 
+    // One line, as `Row::is_unprocessed` is about another enum.
     pub(crate) fn is_idle(self) -> bool
         ensures { result ≡ is_idle self }
     {

@@ -11,10 +11,7 @@ use crate::table::{self, entry_at};
 pub fn is_sound(versions: &[Version], number: u16, limit: usize) -> bool
     ensures { result ≡ slot_sound number (entry_of versions.now number) limit }
 {
-    match table::slot(number) {
-        None => true,
-        Some(slot) => slot < limit && entry_at(versions, slot).produced,
-    }
+    table::slot(number).is_none_or(|slot| slot < limit && entry_at(versions, slot).produced)
 }
 
 // Every newest slot is 65,535, or below the bound, 4n, and in the table, with a produced version. What else it may be
@@ -32,11 +29,11 @@ pub fn newest_sound(versions: &[Version], newest: &[u16], bound: usize) -> bool
 pub fn newest_slot(newest: &[u16], number: usize) -> Option<usize>
     ensures { result ≡ slot_named (slot_of newest.now number) }
 {
-    table::slot(newest.get(number).copied().unwrap_or(terms::NO_SLOT))
+    newest.get(number).and_then(|&named| table::slot(named))
 }
 
 // "Each record with a newest version takes its contents." A record that the newest-version table does not have has no
-// newest version.
+// newest version. Not by a zip with `newest`: a proof then does not know the records.
 pub fn collect(versions: &[Version], newest: &[u16], records: &mut [u64])
     ensures { records.new ≡ collect_of versions.now newest.now records.old true }
 {

@@ -10,11 +10,7 @@ use crate::entry::empty;
 pub(crate) fn slot(number: u16) -> Option<usize>
     ensures { result ≡ slot_named number }
 {
-    if terms::is_no_slot(number) {
-        None
-    } else {
-        Some(number as usize)
-    }
+    (!terms::is_no_slot(number)).then_some(usize::from(number))
 }
 
 // The entry at any slot: past the end of the table it is the empty one.

@@ -49,7 +49,8 @@ pub(crate) fn consider_advance(
     })
 }
 
-// What an advance changes, decided before anything is touched; "steps check 1" first.
+// What an advance changes, decided before anything is touched; "steps check 1" first. Nine parameters, since the tables
+// and the state's parts are lent apart, as `lent::advance` promises them.
 #[tactic(auto, unfolding(crate::specs::LawsLentAdvance::turn_with))]
 pub(crate) fn turn(
     rows: &[Row],
@@ -86,7 +87,7 @@ pub(crate) fn leave(rows: &mut [Row], transaction: u8, left: Option<Row>)
     }
 }
 
-// The answer, and what the advance changes; a refused one changes nothing.
+// The answer, and what the advance changes; a refused one changes nothing. Its parts are lent apart as in `turn`.
 fn carry_out(
     rows: &mut [Row],
     crew: &mut [Worker],

@@ -71,8 +71,7 @@ impl Numbers {
         ensures { result ≡ wrong_for_advance (joined self [] []) records newest versions results }
     {
         (records != usize::from(self.records))
-            | (newest != usize::from(self.records))
-            | (versions != 256)
+            | self.is_wrong_for_place(newest, versions)
             | (results != 256)
     }
 
@@ -80,16 +79,14 @@ impl Numbers {
     pub(crate) fn is_wrong_for_seal(self, records: usize, newest: usize, versions: usize) -> bool
         ensures { result ≡ wrong_for_seal (joined self [] []) records newest versions }
     {
-        (records != usize::from(self.records))
-            | (newest != usize::from(self.records))
-            | (versions != 256)
+        (records != usize::from(self.records)) | self.is_wrong_for_place(newest, versions)
     }
 
     // The same of those that an opening is lent.
     pub(crate) fn is_wrong_for_opening(self, newest: usize, versions: usize, results: usize) -> bool
         ensures { result ≡ wrong_for_opening (joined self [] []) newest versions results }
     {
-        (newest != usize::from(self.records)) | (versions != 256) | (results != 256)
+        self.is_wrong_for_place(newest, versions) | (results != 256)
     }
 
     // The slots of the batch: 4n.

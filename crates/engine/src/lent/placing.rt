@@ -42,7 +42,8 @@ fn planned(
     })
 }
 
-// "Steps check 1, 14, 9, 10, 11, .. then, in place and advance, 2 and the one transaction's 4 to 8, then 15".
+// "Steps check 1, 14, 9, 10, 11, .. then, in place and advance, 2 and the one transaction's 4 to 8, then 15". Seven
+// parameters, since the tables and the state's parts are lent apart, as `lent::place` promises them.
 #[tactic(auto, using(crate::specs::LawsPlan::asked), unfolding(crate::specs::Place::place_verdict))]
 pub(crate) fn consider_place(
     rows: &[Row],

@@ -54,7 +54,7 @@ impl Numbers {
         (self.size < placed) | ((usize::from(self.partitions) <= p) & (placed != 0))
     }
 
-    // The chain of `is_planning` with another test.
+    // The chain of `is_planning`, which asks another thing of each count.
     fn has_wrong_placed(self) -> bool
         ensures { result ≡ some_below 8 (placed_wrong (joined self [] [])) }
     {
