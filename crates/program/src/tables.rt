@@ -72,7 +72,7 @@ pub(crate) fn run_made<R: Print, F: Read + Seek>(
 ) -> io::Result<()> {
     let mut bytes = [0; 8192];
     files::load(stored, &mut bytes)?;
-    let count = (state.records as usize).min(1024);
+    let count = usize::from(state.records).min(1024);
     let mut records = [0; 1024];
     files::numbers(&bytes, &mut records[..count]);
     let mut entries = [0; 5720];
