@@ -29,7 +29,7 @@ pub fn make_for(bytes: usize, partitions: usize, workers: usize) -> Made
     State::make(records_in(bytes), partitions, workers, Position(1))
 }
 
-// Number k of a table; 0 past the last.
+// Number k of a table; 0 past the last. A function, so that one clause, `get_or`, serves both who ask.
 fn number_at(table: &[u64], k: usize) -> u64
     ensures { result ≡ get_or table.now k 0 }
 {
