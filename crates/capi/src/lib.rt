@@ -22,7 +22,7 @@ pub fn uxoladun_check(bytes: &[u8], records: usize, place: &mut u64) -> u32
 {
     let verdict = unpack(bytes, records).verdict;
     *place = verdict_place(verdict) as u64;
-    verdict_number(verdict) as u32
+    u32::from(verdict_number(verdict))
 }
 
 // "a lent table's length is wrong"
@@ -62,6 +62,6 @@ pub fn uxoladun_run(
     let made = State::make(records.len(), partitions, workers, Position(first));
     match made.verdict {
         Ok(()) => tables::run_made(made.state, log, steps, records, results, outcomes, counts),
-        Err(why) => why.refusal.number() as u32,
+        Err(why) => u32::from(why.refusal.number()),
     }
 }

@@ -18,6 +18,7 @@ fn outcome_byte(row: Row) -> u8
     }
 }
 
+// By index: after a `zip` over `iter_mut` the loop does not say what the table holds.
 pub(crate) fn tell_outcomes(state: State, outcomes: &mut [u8])
     ensures { outcomes.new ≡ outcomes_of state outcomes.old }
 {

@@ -27,7 +27,7 @@ pub(crate) fn run_made(
     let mut versions = [empty(); 256];
     let opened = state.open(log, newest, &mut versions, results);
     if let Answer::Refused(refusal, _) = opened.answer {
-        return refusal.number() as u32;
+        return u32::from(refusal.number());
     }
     let tally = begin(opened.state);
     let bytes = steps.len();

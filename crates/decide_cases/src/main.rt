@@ -19,6 +19,7 @@ fn values(b: [u8; 32]) -> [u64; 4] {
     array::from_fn(|value| little::long(array::from_fn(|byte| b[8 * value + byte])))
 }
 
+// Outcome is of another crate, so that no Display can be made for it here.
 fn print_outcome(rt: &impl Print, outcome: Outcome) -> io::Result<()> {
     match outcome {
         Outcome::Committed => print_text(rt, b"committed"),
@@ -68,6 +69,7 @@ impl Cases for Decisions {
     }
 }
 
+// The cases are named by their type, and no closure: `Cases` says why.
 fn main(rt: HostRuntime) -> io::Result<()> {
     case_files::run_all::<Decisions, _>(&rt)
 }

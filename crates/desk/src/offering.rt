@@ -54,7 +54,8 @@ fn offer(
 }
 
 // Offers the whole steps in the first `bytes` bytes of a piece of their file, one after the other, by their numbers:
-// the definition, `run_of`, and `step_at` name step k.
+// the definition, `run_of`, and `step_at` name step k. A count beside the piece: `run_of`, of which the theorems of
+// `promised` speak, has both.
 pub fn offer_all(
     mut tally: Tally,
     piece: &[u8],

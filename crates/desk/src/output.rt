@@ -29,7 +29,7 @@ pub fn make_for(bytes: usize, partitions: usize, workers: usize) -> Made
     State::make(records_in(bytes), partitions, workers, Position(1))
 }
 
-// Number k of a table; 0 past the last.
+// Number k of a table; 0 past the last. A function, so that one clause, `get_or`, serves both who ask.
 fn number_at(table: &[u64], k: usize) -> u64
     ensures { result ≡ get_or table.now k 0 }
 {
@@ -57,7 +57,7 @@ fn outcome_of(row: Row) -> Outcome
 fn reads_of(log: &[u8], index: usize, n: usize) -> usize
     ensures { result ≡ reads_of n log.now index }
 {
-    unpack_at(log, index, n).meaning.readcount as usize
+    usize::from(unpack_at(log, index, n).meaning.readcount)
 }
 
 // The line of a transaction; none past the 64 that a batch may have.
@@ -67,7 +67,7 @@ pub fn transaction_at(tally: Tally, log: &[u8], results: &[u64], index: usize) -
     let Some(&row) = tally.state.rows.get(index) else {
         return Line::blank();
     };
-    let count = reads_of(log, index, tally.state.records as usize);
+    let count = reads_of(log, index, usize::from(tally.state.records));
     let values = four_at(results, 4 * index);
     transaction_line(index as u64 + 1, outcome_of(row), count, values)
 }
@@ -90,12 +90,12 @@ pub fn counts_of(tally: Tally) -> Line
 pub fn refusal_line(refusal: Refusal) -> Line
     ensures { result ≡ line_of (refused_line (number_of refusal)) }
 {
-    refused_line(refusal.number() as u64)
+    refused_line(u64::from(refusal.number()))
 }
 
 // The line of a refused opening.
 pub fn opening_line(stepped: Stepped) -> Line
     ensures { result ≡ line_of (refused_line (answer_number stepped.answer)) }
 {
-    refused_line(stepped.answer.number() as u64)
+    refused_line(u64::from(stepped.answer.number()))
 }

@@ -41,12 +41,12 @@ impl Step {
     pub(crate) fn asks(self) -> Option<Asked>
         ensures { result ≡ asked_of self }
     {
-        let party = self.party as usize;
+        let party = usize::from(self.party);
         match (self.kind, self.transaction) {
             (1, 0) => Some(Asked::Place { party }),
             (2, transaction) => Some(Asked::Claim {
                 party,
-                transaction: transaction as usize,
+                transaction: usize::from(transaction),
             }),
             (3, 0) => Some(Asked::Advance { party }),
             (4, 0) => Some(Asked::Seal),

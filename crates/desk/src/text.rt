@@ -15,7 +15,8 @@ fn outcome_word(outcome: Outcome) -> &'static [u8]
     }
 }
 
-// "Each tx line has position, outcome and values read", the first `count` of four.
+// "Each tx line has position, outcome and values read", the first `count` of four: count and array side by side, since
+// the contract, which is promised, takes the first so many of four.
 pub fn transaction_line(position: u64, outcome: Outcome, count: usize, values: [u64; 4]) -> Line
     ensures { result ≡ line_of (tx_line position outcome (take count values)) }
 {
@@ -23,7 +24,7 @@ pub fn transaction_line(position: u64, outcome: Outcome, count: usize, values: [
     line.push_text(b"tx ");
     line.push_number(position);
     line.push_text(outcome_word(outcome));
-    line.push_spaced(count, values);
+    line.push_spaced(&values[..count.min(4)]);
     line.push_text(b"\n");
     line
 }

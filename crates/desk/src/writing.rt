@@ -1,5 +1,5 @@
 // Writing into a line, part after part.
-ghost use Rattle.std.specs.Prelude.{◌≡◌, [], take};
+ghost use Rattle.std.specs.Prelude.{◌≡◌, []};
 ghost use Rattle.desk.specs.Lines.{pushed, pushed_all, line_of};
 ghost use Rattle.desk.specs.Text.{digit, digits, decimal, spaced};
 
@@ -58,11 +58,11 @@ impl Line {
         self.push_digits(20, number);
     }
 
-    // Each of the first numbers after a space.
-    pub(crate) fn push_spaced(&mut self, count: usize, numbers: [u64; 4])
-        ensures { self.new ≡ pushed_all self.old (spaced (take count numbers)) }
+    // Each number after a space.
+    pub(crate) fn push_spaced(&mut self, numbers: &[u64])
+        ensures { self.new ≡ pushed_all self.old (spaced numbers.now) }
     {
-        for &number in &numbers[..count.min(4)] {
+        for &number in numbers {
             self.push(b' ');
             self.push_number(number);
         }

@@ -51,6 +51,7 @@ fn print_head(rt: &impl Print, k: usize) -> io::Result<()> {
 fn all_cases(rt: &impl Print, file: Part<&File>) -> io::Result<()> {
     let count = number_at(file, 0)?;
     let mut place: usize = 4;
+    // By number: the file holds a count, and each case tells only where the next stands.
     for k in 0..count {
         print_head(rt, k)?;
         place = case(rt, file, place)?;

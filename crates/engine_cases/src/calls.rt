@@ -29,7 +29,7 @@ pub(crate) enum Call {
 fn stepped(made: Made) -> Stepped {
     let answer = match made.verdict {
         Ok(()) => Answer::Accepted,
-        Err(refused) => Answer::Refused(refused.refusal, refused.place),
+        Err(refused) => Answer::from(refused),
     };
     Stepped {
         answer,

@@ -7,6 +7,7 @@ use std::io;
 use std::io::Read;
 use versions::Version;
 
+// A trait of this program's: a `From` reads no file, and no Display can be made for a type of another crate.
 pub(crate) trait Entry: Copy {
     // The entry that follows in the file.
     fn next(file: &mut impl Read) -> io::Result<Self>;
@@ -56,25 +57,20 @@ impl Entry for Version {
     }
 
     fn print(self, rt: &impl Print, index: usize) -> io::Result<()> {
-        match self {
-            Version {
-                begin: 0,
-                end: 0,
-                previous: terms::NO_SLOT,
-                contents: 0,
-                produced: false,
-            } => Ok(()),
-            Version {
-                begin,
-                end,
-                previous,
-                contents,
-                produced,
-            } => print!(rt;
-                " {index} {begin} {end} {previous} {contents} {}",
-                u8::from(produced)
-            ),
+        if self == versions::empty() {
+            return Ok(());
         }
+        let Version {
+            begin,
+            end,
+            previous,
+            contents,
+            produced,
+        } = self;
+        print!(rt;
+            " {index} {begin} {end} {previous} {contents} {}",
+            u8::from(produced)
+        )
     }
 }
 
@@ -172,6 +168,7 @@ impl Entry for Worker {
     }
 
     fn print(self, rt: &impl Print, index: usize) -> io::Result<()> {
+        // By a pattern: the types of `engine` derive no equality.
         match self {
             Worker {
                 phase: Phase::Idle,

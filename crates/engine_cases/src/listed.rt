@@ -11,6 +11,7 @@ use versions::Version;
 // A slot, and the version that the case puts there.
 type Listed = (usize, Version);
 
+// All zeros, as a file counts what it lacks: `versions::empty` has no previous slot, and Version derives no Default.
 const ZEROS: Version = Version {
     begin: 0,
     end: 0,
@@ -23,6 +24,7 @@ const ZEROS: Version = Version {
 // keep counts as zeros.
 const WHOLE: usize = 341;
 
+// Length and count are of the table and the list in the file, and not of what is kept.
 #[derive(Clone, Copy)]
 pub(crate) struct List {
     length: usize,
@@ -37,6 +39,7 @@ impl List {
         let length = numbers::next(file)? as usize;
         let mut count = 0;
         let mut kept = [(0, ZEROS); WHOLE + 1];
+        // By index, and the count from it: the list goes on to an end mark, and each read may fail.
         for index in 0..=LONGEST {
             let Some(listed) = tables::next_entry(file, u64::MAX)? else {
                 break;

@@ -51,6 +51,7 @@ impl Cases for EngineCases {
     }
 }
 
+// The cases are named by their type, and no closure: `Cases` says why.
 fn main(rt: HostRuntime) -> io::Result<()> {
     case_files::run_all::<EngineCases, _>(&rt)
 }

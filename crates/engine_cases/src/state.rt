@@ -6,7 +6,7 @@ use std::io;
 use std::io::Read;
 use terms::{BatchNumber, Position};
 
-// "the all-zero idle one"
+// "the all-zero idle one". Written out, as is the row: the types of `engine` derive no Default.
 const IDLE: Worker = Worker {
     phase: Phase::Idle,
     transaction: 0,

@@ -77,7 +77,8 @@ pub(crate) fn at_start<F: Seek>(part: &mut Part<F>) -> io::Result<()> {
     Ok(())
 }
 
-// Reads on in the file of a part; there is nothing to read where it has none.
+// Reads on in the file of a part; there is nothing to read where it has none. A count and not the part of the space,
+// here and below: the clause of a read is about the slice that it is lent.
 pub(crate) fn read_on<F: Read>(part: &mut Part<F>, space: &mut [u8]) -> io::Result<usize>
     ensures { IfOk result (λ n. n ≤ length space.new) }
 {

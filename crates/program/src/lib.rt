@@ -13,7 +13,7 @@ use std::io::{Read, Seek};
 use std::rt::Files;
 
 // Bytes of an open file: so many from `start` on. There is no file where it could not be opened. Parts of one file
-// share it, as `&File`.
+// share it, as `&File`. A length and no slice: the bytes lie in the file.
 #[derive(Clone, Copy, Drop)]
 pub struct Part<F> {
     pub file: Option<F>,

@@ -19,7 +19,8 @@ pub(crate) struct Tables<'a> {
 // How many bytes of the steps are read at a time.
 const PIECE: usize = 65536;
 
-// Offers the steps, piece by piece; the last piece is a short one, which may be empty.
+// Offers the steps, piece by piece; the last piece is a short one, which may be empty. By number: what is cut in pieces
+// lies in a file, and is no slice.
 fn work<F: Read>(
     mut tally: Tally,
     steps: &mut Part<F>,
@@ -61,7 +62,7 @@ fn batch<R: Print, F: Read>(
 }
 
 // A store that was made. The newest-version table is as long as the records. Of the log so much is read that one that
-// is too long is refused.
+// is too long is refused. The three parts stand side by side as in `run`, which is public.
 pub(crate) fn run_made<R: Print, F: Read + Seek>(
     rt: &R,
     state: State,
@@ -72,7 +73,7 @@ pub(crate) fn run_made<R: Print, F: Read + Seek>(
 ) -> io::Result<()> {
     let mut bytes = [0; 8192];
     files::load(stored, &mut bytes)?;
-    let count = (state.records as usize).min(1024);
+    let count = usize::from(state.records).min(1024);
     let mut records = [0; 1024];
     files::numbers(&bytes, &mut records[..count]);
     let mut entries = [0; 5720];

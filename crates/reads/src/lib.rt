@@ -14,6 +14,7 @@ pub fn fill<F: Read>(input: &mut F, space: &mut [u8]) -> io::Result<usize>
     ensures kept { length space.new ≡ length space.old }
 {
     let mut done = 0;
+    // A read that is interrupted is asked again, and a loop has to end.
     for _ in 0..u64::MAX {
         if done >= space.len() {
             break;

@@ -56,7 +56,8 @@ fn total(bytes: &[u8]) -> u64 {
     })
 }
 
-// Reads as much of the file as there is room for; a missing one counts as empty.
+// Reads as much of the file as there is room for; a missing one counts as empty. A count and not the part of the space:
+// the clause of a read is about the slice that it is lent.
 fn load(rt: &impl Files, space: &mut [u8]) -> io::Result<usize>
     ensures { IfOk result (λ n. n ≤ length space.new) }
 {

@@ -17,7 +17,7 @@ returns-in-Refused c =
     let met =
     refused_met opened c.args.log.now c.args.steps.now c.args.records.now c.args.outcomes.now c.args.counts.now
     c.in-Refused.refusal _ (sym (ap (λ x. x.answer) own.0) ∙ c.in-Refused.is) in
-    let number : c.number.result ≡ number_of c.in-Refused.refusal = search rules in
+    let number : c.from.result ≡ number_of c.in-Refused.refusal = search rules in
     (number ∙ met.0, (met.1.0, (own.1.1.1 ∙ met.1.1.0, met.1.1.1)))
 
 pub returns : goal.returns

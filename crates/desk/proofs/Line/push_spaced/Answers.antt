@@ -1,5 +1,5 @@
-use Rattle.std.proofs.Common.{◌≡◌, arith, ◌∙◌, refl, length, take}
-use Rattle.desk.specs.LawsLines.{pushed_none, spaced_next, spaced_one, spaced_end, four_taken}
+use Rattle.std.proofs.Common.{◌∙◌, refl}
+use Rattle.desk.specs.LawsLines.{pushed_none, spaced_next, spaced_one, spaced_end}
 use Rattle.desk.proofs.Line.push_spaced.Goals as goal
 
 pub loop-number-init : goal.loop-number-init
@@ -7,13 +7,11 @@ loop-number-init c = pushed_none c.args.self.now
 
 pub loop-number-preserved : goal.loop-number-preserved
 loop-number-preserved c =
-    spaced_next c.loop-number.self _ c.args.self.now (take c.min.result c.args.numbers) c.loop-number.number-index _
+    spaced_next c.loop-number.self _ c.args.self.now c.args.numbers.now c.loop-number.number-index _
     c.loop-number-test.true refl c.loop-number.invariant
     (rw c.push.ensures at c.push_number.ensures ∙ spaced_one c.loop-number.self _)
 
 pub returns : goal.returns
 returns c =
-    let four : length c.args.numbers ≡ 4 = omega arith in
-    spaced_end c.loop-number.self c.args.self.now (take c.min.result c.args.numbers) c.loop-number.number-index
+    spaced_end c.loop-number.self c.args.self.now c.args.numbers.now c.loop-number.number-index
     c.loop-number-test.false c.loop-number.invariant
-    ∙ rw (c.min.ensures, four_taken c.args.numbers c.args.count four) refl

@@ -5,4 +5,4 @@ use Rattle.desk.proofs.Line.push_spaced.Given as goal
 
 -- the numbers so far are pushed
 abbrev pub invariant-loop-number : goal.invariant-loop-number
-invariant-loop-number l = l.self ≡ pushed_all l.fn.self (spaced (take l.number-index l.number-items))
+invariant-loop-number l = l.self ≡ pushed_all l.fn.self (spaced (take l.number-index l.numbers))

@@ -19,6 +19,7 @@ returns c =
       c.transaction_line.ensures,
       c.four_at-values.ensures,
       c.reads_of-count.ensures,
+      c.from.ensures,
       c.outcome_of.ensures,
       c.in-Some.ensures.lookup.3.1 (row Unprocessed),
       lt-ltb _ _ within,

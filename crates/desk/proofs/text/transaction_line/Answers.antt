@@ -1,5 +1,5 @@
 use Rattle.std.proofs.Common.{◌≡◌, arith, length, take}
-use Rattle.desk.specs.LawsLines.{four_few}
+use Rattle.desk.specs.LawsLines.{four_few, four_taken}
 use Rattle.desk.specs.LawsText.{tx_made}
 use Rattle.desk.proofs.text.transaction_line.Goals as goal
 
@@ -9,6 +9,8 @@ returns c =
     rw (
       c.push_text-3.ensures,
       c.push_spaced.ensures,
+      c.min.ensures,
+      four_taken c.args.values c.args.count four,
       c.push_text-2.ensures,
       c.outcome_word.ensures,
       c.push_number.ensures,
