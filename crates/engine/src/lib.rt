@@ -78,8 +78,8 @@ pub struct State {
     pub crew: [Worker; 8],
 }
 
-// What a call answers. No Result: "A wait is an accepted step", and has a position. The refusal and its place apart, and
-// not one `Refused`: the theorems name the two.
+// What a call answers. No Result: "A wait is an accepted step", and has a position. The refusal and its place apart,
+// and not one `Refused`: the theorems name the two.
 #[derive(Clone, Copy, Debug, PartialEq, Eq)]
 pub enum Answer {
     Accepted,
