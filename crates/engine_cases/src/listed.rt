@@ -20,8 +20,8 @@ const ZEROS: Version = Version {
     produced: false,
 };
 
-// A list keeps 2,048 numbers, of each entry six: so many entries whole, and slot and begin of the next. What it does not
-// keep counts as zeros.
+// A list keeps 2,048 numbers, of each entry six: so many entries whole, and slot and begin of the next. What it does
+// not keep counts as zeros.
 const WHOLE: usize = 341;
 
 // Length and count are of the table and the list in the file, and not of what is kept.

@@ -33,7 +33,8 @@ module _ (refusal : Refusal) (at : Place) (s : State) where
   not_refused : {x : Stepped} → x.answer ≡ Accepted → refuses ≡ x → ⊥
   not_refused accepted same = accepted_refused (sym (ap (λ r. r.answer) same ∙ accepted))
 
-  pub make_refusing : record { verdict = Err (record { refusal = refusal; place = at }); state = s } ≡ make_of 4 2 2 1 → ⊥
+  pub make_refusing : record { verdict = Err (record { refusal = refusal; place = at }); state = s } ≡ make_of 4 2 2 1
+      → ⊥
   unfolding after
   make_refusing same = passed_fails (sym (ap (λ r. r.verdict) same))
 
