@@ -84,7 +84,7 @@ impl Counted {
     }
 }
 
-// The numbers of a state.
+// The numbers of a state; field by field, as `joined` says.
 pub fn numbers_of(state: State) -> Numbers
     ensures { result ≡ numbers_of state }
 {

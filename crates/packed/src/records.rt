@@ -133,7 +133,8 @@ fn writes_unlisted(action: Action, set: &[u16; 4], count: u8) -> bool
     }
 }
 
-// Which of the refusals 7 and 8 comes first: one pass over the actions within the count, which stops at a read.
+// Which of the refusals 7 and 8 comes first: one pass over the actions within the count, which stops at a read. A loop,
+// since a write that was found is kept on the way.
 pub(crate) fn undeclared(b: &Entry) -> Option<Refusal>
     requires { byte_at b.now 2 ≤ 4 }
     ensures { result ≡ first_undeclared (undeclared_read b.now) (undeclared_write b.now) }

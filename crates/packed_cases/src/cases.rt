@@ -21,7 +21,8 @@ impl From<u8> for Asked {
     }
 }
 
-// The head of a case: what is asked (1 unpack, 2 pack, 3 an entry of a log), N, the index, the length of what is lent.
+// The head of a case: what is asked (1 unpack, 2 pack, 3 an entry of a log), N, the index, the length of what is lent:
+// of bytes that follow in the file, so that no slice can stand for it.
 #[derive(Clone, Copy)]
 pub struct Head {
     pub asked: Asked,

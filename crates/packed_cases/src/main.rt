@@ -89,6 +89,7 @@ impl Cases for Transactions {
     }
 }
 
+// The cases are named by their type, and no closure: `Cases` says why.
 fn main(rt: HostRuntime) -> io::Result<()> {
     case_files::run_all::<Transactions, _>(&rt)
 }

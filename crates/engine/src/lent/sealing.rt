@@ -20,7 +20,7 @@ pub(crate) fn has_unfinished(rows: &[Row], numbers: Numbers) -> bool
 }
 
 // "The seal checks 1, 14, 9, 15." Where none refuses, "the next position rises by n, the batch number by 1, and n and
-// all placed counts become 0".
+// all placed counts become 0". Its parts are lent apart, as `lent::seal` promises them.
 #[tactic(auto, using(crate::specs::LawsPlan::asked), unfolding(crate::specs::Seal::seal_verdict))]
 pub(crate) fn consider_seal(
     rows: &[Row],
