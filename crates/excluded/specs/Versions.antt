@@ -79,12 +79,11 @@ rows =
     -- put_at: nothing stored; always in the first slot
     ∷ row table_parts (put_of (first ∷ empty_entry ∷ []) 1 second) (first ∷ empty_entry ∷ [])
     ∷ row table_parts (put_of (first ∷ empty_entry ∷ []) 1 second) (second ∷ empty_entry ∷ [])
-    -- clear: the first entry left (clear_leaves_the_first); the whole table (clear_takes_all, in lesser)
+    -- clear: the first entry left (clear_leaves_the_first); the whole table (clear_takes_all)
     ∷ row table_parts (clear_of (first ∷ second ∷ []) 1) (first ∷ second ∷ [])
     ∷ row table_parts (clear_of (first ∷ second ∷ []) 1) (empty_entry ∷ empty_entry ∷ [])
     -- walk: a version that begins at the position of the read (begin_at_most_t); a newest slot at the bound, and a
-    -- previous slot that is not below its own (slot_may_stay, in answer); a slot past the table (limit_is_the_bound, in
-    -- lesser)
+    -- previous slot that is not below its own (slot_may_stay, both); a slot past the table (limit_is_the_bound)
     ∷ row walk_parts (walk_of (first ∷ second ∷ []) 1 8 9) (Found second)
     ∷ row walk_parts (walk_of (first ∷ second ∷ []) 1 1 10) (Found second)
     ∷ row walk_parts (walk_of (first ∷ entry 9 no_end 1 12 true ∷ []) 1 8 9) (Found (entry 9 no_end 1 12 true))
@@ -97,11 +96,11 @@ rows =
     ∷ row table_parts (fill_of (first ∷ placed ∷ []) (fill 1 12)) (first ∷ entry 9 no_end 0 12 false ∷ [])
     ∷ row table_parts (fill_of (first ∷ placed ∷ []) (fill 1 12)) (first ∷ entry 9 no_end 0 0 true ∷ [])
     -- newest_sound: a newest version not produced (newest_not_produced); 65,535 for a broken slot
-    -- (no_slot_is_broken, in sound_on)
+    -- (no_slot_is_broken, in slot_sound)
     ∷ row mark (newest_sound_of (first ∷ placed ∷ []) (1 ∷ []) 8) true
     ∷ row mark (newest_sound_of (first ∷ placed ∷ []) (no_slot ∷ []) 8) false
     -- collect: a record without a version overwritten (collect_without_a_version); the begin for the contents
-    -- (collect_takes_the_begin, in take)
+    -- (collect_takes_the_begin)
     ∷ row numbers (collect_of (first ∷ second ∷ []) (no_slot ∷ 1 ∷ []) (5 ∷ 6 ∷ []) true) (0 ∷ 12 ∷ [])
     ∷ row numbers (collect_of (first ∷ second ∷ []) (no_slot ∷ 1 ∷ []) (5 ∷ 6 ∷ []) true) (5 ∷ 9 ∷ [])
     ∷ []

@@ -32,12 +32,19 @@ pub fn newest_slot(newest: &[u16], number: usize) -> Option<usize>
     newest.get(number).and_then(|&named| table::slot(named))
 }
 
-// "Each record with a newest version takes its contents." A record that the newest-version table does not have has no
-// newest version. Not by a zip with `newest`: a proof then does not know the records.
-pub fn collect(versions: &[Version], newest: &[u16], records: &mut [u64])
-    ensures { records.new ≡ collect_of versions.now newest.now records.old true }
+// "Each record with a newest version takes its contents." With `on` false nothing changes. A record that the
+// newest-version table does not have has no newest version, so where the table ends nothing is left to take. Not by a
+// zip with `newest`: a proof then does not know the records.
+pub fn collect(versions: &[Version], newest: &[u16], records: &mut [u64], on: bool)
+    ensures { records.new ≡ collect_of versions.now newest.now records.old on }
 {
+    if !on {
+        return;
+    }
     for (number, record) in records.iter_mut().enumerate() {
+        if newest.len() <= number {
+            break;
+        }
         if let Some(slot) = newest_slot(newest, number) {
             *record = entry_at(versions, slot).contents;
         }

@@ -74,7 +74,7 @@ pub fn seal(
 {
     match consider_seal(rows, crew, numbers, records, newest, versions) {
         Ok(after) => {
-            collect(versions, newest, records);
+            collect(versions, newest, records, true);
             newest.fill(NO_SLOT);
             clear(versions, versions.len());
             Counted {
