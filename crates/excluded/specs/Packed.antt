@@ -1,5 +1,5 @@
--- Wrong answers of the functions of `packed`, at small entries. Beside each stands the edit that gives it;
--- tools/try-edits tries them again.
+-- Wrong answers of the functions of `packed`, at small entries, beside those that the gate tries as edits
+-- (crates/packed/must-fail). Beside each stands the edit that gives it; tools/try-edits tries them again.
 use Rattle.std.specs.Prelude.{ℕ, List, [], ◌∷◌, ◌++◌, refl, set, replicate, Ok}
 use Rattle.terms.specs.declared.refusal.Refusal.{Refusal}
 use Rattle.terms.specs.declared.refusal.Refusal.TheVariants.{
@@ -12,15 +12,17 @@ use Rattle.terms.specs.declared.refusal.Refusal.TheVariants.{
 use Rattle.little.specs.Little.{number_in, bytes_of}
 use Rattle.packed.specs.Checks.{entry_verdict, verdict_of}
 use Rattle.packed.specs.Decode.{action_of, decode, nothing}
-use Rattle.packed.specs.Encode.{action_bytes, set_bytes, encode}
+use Rattle.packed.specs.Encode.{fields, fields_of, action_bytes, set_bytes, encode}
 use Rattle.packed.specs.Form.{action_nonzero, nonzero, malformed}
 use Rattle.packed.specs.Kinds.{uses_of}
 use Rattle.packed.specs.Packing.{Packed, packed, pack_of}
 use Rattle.packed.specs.Records.{some_of, no_such_record, not_ascending, undeclared_read, undeclared_write}
-use Rattle.packed.specs.Unpacking.{unpacked, unpack_of, unpack_at_of}
-use Rattle.packed.specs.declared.Action.TheVariants.{Set, Add, Copy}
+use Rattle.packed.specs.Unpacking.{unpacked, answered, unpack_of, unpack_at_of}
+use Rattle.packed.specs.declared.Action.{Action}
+use Rattle.packed.specs.declared.Action.TheVariants.{Set, Add, Copy, Move}
 use Rattle.packed.specs.declared.Transaction.{Transaction}
 use Rattle.packed.specs.declared.Unpacked.{Unpacked}
+use Rattle.packed.specs.declared.fields.Fields.{Fields}
 use Rattle.counters.specs.Listing.{transaction}
 use Rattle.excluded.specs.Rows.{Row, row, AllExclude, all_exclude}
 use Rattle.excluded.specs.Terms.{verdict_parts, at, refusing}
@@ -31,6 +33,12 @@ unpacked_parts u = verdict_parts u.verdict ++ encode u.meaning
 
 abbrev pub packed_parts : Packed → List ℕ
 packed_parts p = verdict_parts p.verdict ++ p.buffer
+
+abbrev fields_parts : Fields → List ℕ
+fields_parts x = x.kind ∷ x.r ∷ x.s ∷ x.c ∷ []
+
+abbrev action_parts : Action → List ℕ
+action_parts action = fields_parts (fields_of action)
 
 -- ---- what the rows speak of, in a store of 4 records
 -- a transaction of which so many actions count
@@ -114,6 +122,12 @@ rows =
     -- no_meaning: one that reads (no_meaning_reads); one with an action (no_meaning_acts)
     ∷ row encode nothing (reading (0 ∷ []))
     ∷ row encode nothing (counting 1 nothing)
+    -- Action::from: kind 0 a set (kind_zero_sets)
+    ∷ row action_parts (action_of (fields 0 1 2 3)) (Set 1 3)
+    -- Fields::from: a move with r and s exchanged (move_exchanged)
+    ∷ row fields_parts (fields_of (Move 1 2)) (fields 5 2 1 0)
+    -- Unpacked::from: the all-zero meaning for what was read (meaning_lost)
+    ∷ row unpacked_parts (answered (Ok copying)) (unpacked (Ok tt) nothing)
     -- pack: reads packed as writes (reads_packed_as_writes); a buffer of 88 bytes refused (buffer_refused); a constant
     -- with its high byte first (constant_exchanged)
     ∷ row packed_parts (pack_of 4 (transaction (1 ∷ []) (2 ∷ []) []) zeros)

@@ -1,7 +1,8 @@
 -- Laws of the six kinds.
-use Rattle.std.specs.Prelude.{ℕ, zero, suc, ◌<◌, ◌≡◌, refl}
+use Rattle.std.specs.Prelude.{ℕ, zero, suc, ◌<◌, ◌≡◌, refl, []}
 use Rattle.std.proofs.Common.{arith}
-use Rattle.packed.specs.Kinds.{by_kind}
+use Rattle.packed.specs.Kinds.{by_kind, line, uses_of}
+use Rattle.packed.specs.declared.fields.Fields.{Fields}
 
 abbrev Not : ℕ → ℕ → Type 0
 Not kind number = kind ≡ number → ⊥
@@ -31,3 +32,7 @@ other_kind none set add take copy move floor (suc (suc (suc (suc zero)))) other 
 other_kind none set add take copy move floor (suc (suc (suc (suc (suc zero))))) other = absurd (other.0.1 refl)
 other_kind none set add take copy move floor (suc (suc (suc (suc (suc (suc zero)))))) other = absurd (other.1 refl)
 other_kind none set add take copy move floor (suc (suc (suc (suc (suc (suc (suc kind))))))) other = refl
+
+pub uses_other : (x : Fields) → Other x.kind → uses_of x ≡ line [] [] 0
+unfolding uses_of
+uses_other x other = other_kind _ _ _ _ _ _ _ x.kind other

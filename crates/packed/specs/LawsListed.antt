@@ -1,7 +1,6 @@
 -- Laws of refusals 7 and 8: a record among the first `count` of a set, and what it is below.
 use Rattle.std.specs.Prelude.{ℕ, zero, suc, ◌+◌, ◌*◌, Bool, true, false, ◌&&◌, ◌||◌}
-use Rattle.std.specs.Prelude.{not, ◌≡◌, refl, List, [], ◌∷◌, leb, ltb, eqb, get_or, length, Option, Some, None}
-use Rattle.std.specs.List.{position}
+use Rattle.std.specs.Prelude.{not, ◌≡◌, refl, List, [], ◌∷◌, leb, ltb, eqb, get_or}
 use Rattle.std.proofs.Common.{sym, ap, ◌∙◌, arith, eqb-true, lt-ltb}
 use Rattle.std.proofs.lemmas.Bool.{lt-leb, not-false}
 use Rattle.packed.specs.Fields.{byte_at, set_at, fields_at}
@@ -82,30 +81,6 @@ at_fourth (suc (suc (suc (suc count)))) fourth =
     ends : (fourth : Bool) → (not fourth || false) ≡ not fourth
     ends true = refl
     ends false = refl
-
--- a place past the count, or none
-abbrev pub past : ℕ → Option ℕ → Bool
-past count None = true
-past count (Some place) = leb count place
-
-pub unlisted_past : (set : List ℕ) (count number : ℕ) → length set ≡ 4
-    → past count (position (λ listed. eqb listed number) set) ≡ unlisted set count number
-unlisted_past [] count number four = absurd (omega arith)
-unlisted_past (p ∷ []) count number four = absurd (omega arith)
-unlisted_past (p ∷ q ∷ []) count number four = absurd (omega arith)
-unlisted_past (p ∷ q ∷ r ∷ []) count number four = absurd (omega arith)
-unlisted_past (p ∷ q ∷ r ∷ s ∷ t ∷ set) count number four = absurd (omega arith)
-unlisted_past (p ∷ q ∷ r ∷ s ∷ []) count number four =
-    go (eqb p number) (eqb q number) (eqb r number) (eqb s number)
-  where
-    go : (first second third fourth : Bool)
-        → past count (position (λ (here : Bool). here) (first ∷ second ∷ third ∷ fourth ∷ []))
-        ≡ unlisted_by count first second third fourth
-    go true second third fourth = at_first count second third fourth
-    go false true third fourth = at_second count third fourth
-    go false false true fourth = at_third count fourth
-    go false false false true = at_fourth count true
-    go false false false false = at_fourth count false
 
 -- A record that is listed in a set where none is N or more is below N.
 either : {A : Type 0} (a b : Bool) → (a || b) ≡ true → (a ≡ true → A) → (b ≡ true → A) → A

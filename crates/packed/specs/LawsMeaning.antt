@@ -1,14 +1,11 @@
 -- Laws of refusals 5 to 8 in what an entry means: the places within a count are the first of four.
-use Rattle.std.specs.Prelude.{ℕ, zero, suc, ◌+◌, ◌≤◌, ◌<◌, Bool, true, false, ◌&&◌, ◌||◌}
-use Rattle.std.specs.Prelude.{not, ◌≡◌, refl, List, [], ◌∷◌, leb, ltb, get_or, length, take, drop, Option, Some, None}
+use Rattle.std.specs.Prelude.{ℕ, zero, suc, Bool, true, false, ◌&&◌, ◌||◌}
+use Rattle.std.specs.Prelude.{◌≡◌, refl, List, [], ◌∷◌, ltb, get_or, length, take, Option, Some, None}
 use Rattle.std.specs.List.{list_any}
-use Rattle.std.proofs.Common.{arith, ap, ◌∙◌, lt-ltb, le-ltb, drop-cons, drop_of_length-le, add-one}
-use Rattle.std.proofs.Common.{leb-true, leb-false, ltb-true, ltb-false}
-use Rattle.std.proofs.lemmas.Bool.{lt-leb, le-leb}
+use Rattle.std.proofs.Common.{arith, lt-ltb}
 use Rattle.packed.specs.Decode.{action_of}
 use Rattle.packed.specs.Encode.{fields_of}
 use Rattle.packed.specs.Kinds.{uses_of}
-use Rattle.packed.specs.LawsSets.{set_proper, proper_one, proper_two, proper_three, proper_four}
 use Rattle.packed.specs.Records.{uses_too_large, reads_unlisted, writes_unlisted}
 use Rattle.packed.specs.declared.fields.Fields.{Fields}
 use Rattle.terms.specs.declared.refusal.Refusal.{Refusal}
@@ -115,76 +112,3 @@ any_within test (p ∷ q ∷ r ∷ s ∷ []) (suc (suc (suc (suc (suc count)))))
       lt-ltb 3 many (omega arith),
     )
     (from_four (test p) (test q) (test r) (test s))
-
--- ---- records that ascend
--- none is below `least` or not above the one before it, and the last is below n
-abbrev pub ascends_from : ℕ → List ℕ → ℕ → Bool
-ascends_from least [] n = leb least n
-ascends_from least (first ∷ rest) n = not (ltb first least) && ascends_from (first + 1) rest n
-
--- a loop that goes through them, and stops at one that is below `least`
-pub one_ascends : {whole : Bool} (records : List ℕ) (k least n : ℕ) → k < length records
-    → whole ≡ ascends_from least (drop k records) n → ltb (get_or records k 0) least ≡ false
-    → whole ≡ ascends_from (get_or records k 0 + 1) (drop (k + 1) records) n
-one_ascends records k least n within so_far told =
-    let next = drop-cons records k 0 within in
-    so_far ∙ rw (next, told, add-one k)
-
-pub one_descends : {whole : Bool} (records : List ℕ) (k least n : ℕ) → k < length records
-    → whole ≡ ascends_from least (drop k records) n → ltb (get_or records k 0) least ≡ true
-    → whole ≡ false
-one_descends records k least n within so_far told =
-    let next = drop-cons records k 0 within in
-    so_far ∙ rw (next, told)
-
-pub all_ascend : {whole : Bool} (records : List ℕ) (k least n : ℕ) → length records ≤ k
-    → whole ≡ ascends_from least (drop k records) n → whole ≡ leb least n
-all_ascend records k least n most so_far = so_far ∙ rw (drop_of_length-le records most)
-
-below : (n a : ℕ) → leb (a + 1) n ≡ not (leb n a)
-below n a = go (leb n a) refl
-  where
-    go : (large : Bool) → leb n a ≡ large → leb (a + 1) n ≡ not large
-    go true told = lt-leb (a + 1) n (omega (arith, leb-true n a told))
-    go false told = le-leb (a + 1) n (omega (arith, leb-false n a told))
-
-above : (a b : ℕ) → not (ltb b (a + 1)) ≡ ltb a b
-above a b = go (ltb a b) refl
-  where
-    go : (less : Bool) → ltb a b ≡ less → not (ltb b (a + 1)) ≡ less
-    go true told = ap not (le-ltb b (a + 1) (omega (arith, ltb-true a b told)))
-    go false told = ap not (lt-ltb b (a + 1) (omega (arith, ltb-false a b told)))
-
-not_below_zero : (a : ℕ) → not (ltb a 0) ≡ true
-not_below_zero a = ap not (le-ltb a 0 (omega arith))
-
-both_three : (a b c : Bool) → (a && (b && c)) ≡ ((a && b) && c)
-both_three true b c = refl
-both_three false b c = refl
-
-both_four : (a b c d : Bool) → (a && (b && (c && d))) ≡ (((a && b) && c) && d)
-both_four true b c d = both_three b c d
-both_four false b c d = refl
-
-pub ascends_within : (set : List ℕ) (count n : ℕ) → length set ≡ 4
-    → ascends_from 0 (take count set) n ≡ set_proper n set count
-ascends_within [] count n four = absurd (omega arith)
-ascends_within (p ∷ []) count n four = absurd (omega arith)
-ascends_within (p ∷ q ∷ []) count n four = absurd (omega arith)
-ascends_within (p ∷ q ∷ r ∷ []) count n four = absurd (omega arith)
-ascends_within (p ∷ q ∷ r ∷ s ∷ t ∷ set) count n four = absurd (omega arith)
-ascends_within (p ∷ q ∷ r ∷ s ∷ []) zero n four = le-leb 0 n (omega arith)
-ascends_within (p ∷ q ∷ r ∷ s ∷ []) (suc zero) n four =
-    rw (not_below_zero p, below n p) (proper_one n (p ∷ q ∷ r ∷ s ∷ []))
-ascends_within (p ∷ q ∷ r ∷ s ∷ []) (suc (suc zero)) n four =
-    rw (not_below_zero p, above p q, below n q) (proper_two n (p ∷ q ∷ r ∷ s ∷ []))
-ascends_within (p ∷ q ∷ r ∷ s ∷ []) (suc (suc (suc zero))) n four =
-    rw (not_below_zero p, above p q, above q r, below n r)
-    (both_three (ltb p q) (ltb q r) (not (leb n r)) ∙ proper_three n (p ∷ q ∷ r ∷ s ∷ []))
-ascends_within (p ∷ q ∷ r ∷ s ∷ []) (suc (suc (suc (suc zero)))) n four =
-    rw (not_below_zero p, above p q, above q r, above r s, below n s)
-    (both_four (ltb p q) (ltb q r) (ltb r s) (not (leb n s)) ∙ proper_four n (p ∷ q ∷ r ∷ s ∷ []) 4 (omega arith))
-ascends_within (p ∷ q ∷ r ∷ s ∷ []) (suc (suc (suc (suc (suc count))))) n four =
-    rw (not_below_zero p, above p q, above q r, above r s, below n s)
-    (both_four (ltb p q) (ltb q r) (ltb r s) (not (leb n s))
-    ∙ proper_four n (p ∷ q ∷ r ∷ s ∷ []) (suc (suc (suc (suc (suc count))))) (omega arith))

@@ -18,13 +18,12 @@ use Rattle.terms.specs.declared.refusal.Refusal.{Refusal}
 use Rattle.terms.specs.declared.refusal.Refusal.TheVariants.{WrongParameter, WrongLength}
 use Rattle.terms.specs.declared.refusal.Refused.{Refused}
 use Rattle.packed.specs.Checks.{entry_verdict, wrong_record_count, verdict_of}
-use Rattle.packed.specs.Decode.{decode, nothing}
+use Rattle.packed.specs.Decode.{decode}
 use Rattle.packed.specs.Form.{malformed}
 use Rattle.packed.specs.Packing.{written}
 use Rattle.packed.specs.Records.{no_such_record, not_ascending, undeclared_read, undeclared_write}
-use Rattle.packed.specs.Unpacking.{unpacked, unpack_of, entry_of, unpack_at_of}
+use Rattle.packed.specs.Unpacking.{unpacked, answered, unpack_of, entry_of, unpack_at_of}
 use Rattle.packed.specs.declared.Transaction.{Transaction}
-use Rattle.packed.specs.declared.Unpacked.{Unpacked}
 
 -- none of the faults 4 to 8
 pub record Proper (n : ℕ) (b : List ℕ) : Type 0 where
@@ -110,21 +109,7 @@ abbrev pub read_where : Verdict → Transaction → Result Transaction Refused
 read_where (Ok _) meaning = Ok meaning
 read_where (Err why) meaning = Err why
 
-pub read_err : {why : Refused} (verdict : Verdict) (meaning : Transaction) → read_where verdict meaning ≡ Err why
-    → verdict ≡ Err why
-read_err (Ok _) meaning told = cc
-read_err (Err why) meaning told = cc
-
-pub read_ok : {read : Transaction} (verdict : Verdict) (meaning : Transaction) → read_where verdict meaning ≡ Ok read
-    → verdict ≡ Ok tt
-read_ok (Ok _) meaning told = refl
-read_ok (Err why) meaning told = cc
-
--- and the answer of unpacking, which that is
-abbrev pub answered : Result Transaction Refused → Unpacked
-answered (Ok meaning) = record { verdict = Ok tt; meaning = meaning }
-answered (Err why) = record { verdict = Err why; meaning = nothing }
-
+-- and its answer is that of unpacking
 pub answered_where : (verdict : Verdict) (meaning : Transaction)
     → answered (read_where verdict meaning) ≡ unpacked verdict meaning
 answered_where (Ok _) meaning = refl

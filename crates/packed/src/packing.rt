@@ -16,7 +16,7 @@ pub fn pack(meaning: Transaction, n: usize, buffer: &mut [u8]) -> Verdict
     )?;
     refuse_if(buffer.len() != 88, Refusal::WrongLength, 0)?;
     let b = encode::encoded(meaning);
-    unpacking::entry(&b, n, 0)?;
+    unpacking::checked(&b, n, 0)?;
     buffer.copy_from_slice(&b);
     Ok(())
 }

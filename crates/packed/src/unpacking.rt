@@ -1,17 +1,17 @@
-// From bytes to a meaning, or to the reason why they have none.
+// From bytes to their meaning or to the reason why they have none.
 ghost use Rattle.std.specs.Prelude.{◌≡◌};
 ghost use Rattle.packed.specs.Checks.{entry_verdict, wrong_record_count};
 ghost use Rattle.packed.specs.Decode.{decode};
-ghost use Rattle.packed.specs.LawsVerdict.{read_where, read_in, answered};
-ghost use Rattle.packed.specs.Unpacking.{unpack_of, unpack_at_of};
+ghost use Rattle.packed.specs.LawsVerdict.{read_where, read_in};
+ghost use Rattle.packed.specs.Unpacking.{answered, unpack_of, unpack_at_of};
 
 use crate::{Entry, Transaction, Unpacked, decode, form, records};
-use terms::{Refusal, Refused, refuse_if};
+use terms::{Refusal, Refused, Verdict, refuse_if};
 
-// What one entry means, where checks 4 to 8 accept it. An action whose records are all declared in proper sets uses
-// none that is N or more: where nothing is undeclared, check 5 is not made of the actions.
-pub(crate) fn entry(b: &Entry, n: usize, index: usize) -> Result<Transaction, Refused>
-    ensures { result ≡ read_where (entry_verdict n index b.now) (decode b.now) }
+// Checks 4 to 8 of one entry. An action whose records are all declared in proper sets uses none that is N or more:
+// where nothing is undeclared, check 5 is not made of the actions.
+pub(crate) fn checked(b: &Entry, n: usize, index: usize) -> Verdict
+    ensures { result ≡ entry_verdict n index b.now }
 {
     refuse_if(form::is_malformed(b), Refusal::Malformed, index)?;
     if !records::sets_proper(b, n) {
@@ -30,6 +30,14 @@ pub(crate) fn entry(b: &Entry, n: usize, index: usize) -> Result<Transaction, Re
         )?;
         return Err(refusal.at(index));
     }
+    Ok(())
+}
+
+// What one entry means, where checks 4 to 8 accept it.
+fn entry(b: &Entry, n: usize, index: usize) -> Result<Transaction, Refused>
+    ensures { result ≡ read_where (entry_verdict n index b.now) (decode b.now) }
+{
+    checked(b, n, index)?;
     Ok(decode::decoded(b))
 }
 

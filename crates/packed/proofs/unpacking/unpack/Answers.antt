@@ -1,5 +1,6 @@
 use Rattle.std.proofs.Common.{ap, ◌∙◌}
-use Rattle.packed.specs.LawsVerdict.{answered, whole}
+use Rattle.packed.specs.LawsVerdict.{whole}
+use Rattle.packed.specs.Unpacking.{answered}
 use Rattle.packed.proofs.unpacking.unpack.Goals as goal
 
 pub returns : goal.returns

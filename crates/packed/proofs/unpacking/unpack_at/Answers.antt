@@ -1,5 +1,6 @@
 use Rattle.std.proofs.Common.{ap, ◌∙◌}
-use Rattle.packed.specs.LawsVerdict.{answered, in_log}
+use Rattle.packed.specs.LawsVerdict.{in_log}
+use Rattle.packed.specs.Unpacking.{answered}
 use Rattle.packed.proofs.unpacking.unpack_at.Goals as goal
 
 pub returns : goal.returns
