@@ -10,6 +10,13 @@ use Rattle.little.specs.Little.{number_in, bytes_of}
 abbrev pub Bytes : List ℕ → Type 0
 Bytes bytes = (i : ℕ) → get_or bytes i 0 < 256
 
+-- the number in some bytes is below what that many bytes can hold
+pub number_below : (bytes : List ℕ) → Bytes bytes → number_in bytes < 256 ^ length bytes
+unfolding number_in
+number_below [] small = omega arith
+number_below (byte ∷ bytes) small =
+    rw (pow-suc 256 (length bytes)) (omega (arith, number_below bytes (λ i. small (suc i)), small 0))
+
 -- what was written is read, where it fits
 pub number_of_bytes : (width number : ℕ) → number < 256 ^ width → number_in (bytes_of width number) ≡ number
 unfolding number_in bytes_of
