@@ -1,4 +1,5 @@
--- Laws of actions over any memory.
+-- Laws of actions: that an abort is the end over any memory, and the code's loop over a transaction's rows, which goes
+-- over its working copy.
 use Rattle.std.specs.Prelude.{◌≡◌, ℕ, zero, suc, ◌+◌, ◌<◌, Result, Ok, Err, IsErr, min}
 use Rattle.std.specs.Prelude.{List, [], ◌∷◌, length, map, take, drop, get_or, slice_index_or}
 use Rattle.std.proofs.Math.Path.{refl, ap}

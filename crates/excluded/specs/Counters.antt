@@ -62,7 +62,7 @@ rows =
     ∷ row decision_parts
     (decide_of (counting 1 (transaction [] (0 ∷ []) (Set 0 7 ∷ Set 0 8 ∷ []))) (four 0 0 0 0))
     (decision Committed (four 8 0 0 0) none)
-    -- a write that a later action does not see (write_is_not_seen, in working::write)
+    -- a write that a later action does not see (write_is_not_seen, in write)
     ∷ row decision_parts
     (decide_of (transaction (0 ∷ 1 ∷ []) (1 ∷ []) (Set 1 7 ∷ Add 1 5 ∷ [])) (four 10 20 0 0))
     (decision Committed (four 25 0 0 0) none)
