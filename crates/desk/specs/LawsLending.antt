@@ -1,6 +1,6 @@
 -- An offered step, whose engine step is lent the state's transactions and workers beside its numbers: the session after
 -- it is that of the step on the whole state.
-use Rattle.std.specs.Prelude.{ℕ, ◌*◌, Bool, true, false, not, List, Option, Some, None, ◌≡◌, refl, length}
+use Rattle.std.specs.Prelude.{ℕ, ◌*◌, Bool, true, false, not, cond, List, Option, Some, None, ◌≡◌, refl, length, T}
 use Rattle.std.specs.Prelude.{Result, Ok, Err}
 use Rattle.std.proofs.Common.{sym, ap, ◌∙◌}
 use Rattle.terms.specs.Refusals.{Verdict}
@@ -38,6 +38,7 @@ use Rattle.desk.specs.Counts.{counted, counted_seal, refused_at_once}
 use Rattle.desk.specs.LawsOffer.{offered_by, offered_asked}
 use Rattle.desk.specs.LawsSteps.{asked_of}
 use Rattle.desk.specs.Offer.{Session, session_of, offer_of}
+use Rattle.desk.specs.Steps.{is_place, is_claim, is_advance, is_seal}
 use Rattle.desk.specs.declared.Step.{Step}
 use Rattle.desk.specs.declared.Tally.{Tally}
 use Rattle.desk.specs.declared.steps.Asked.{Asked}
@@ -243,3 +244,53 @@ module _ (step : Step) (tally after : Tally) (before : Numbers) (log records new
       → session_of (with_numbers after before) records newest versions results ≡ offer_of step log session
   none_met asks is =
       sessions _ _ _ _ _ _ _ _ _ _ (ap (λ t. with_numbers t before) is) refl refl refl refl ∙ offered None asks
+
+  -- what holds of a step by what it asks, where that is neither a place nor a claim
+  abbrev LaterMet : Option Asked → Type 0
+  LaterMet (Some (Place party)) = ⊥
+  LaterMet (Some (Claim party transaction)) = ⊥
+  LaterMet (Some (Advance party)) =
+      (rows : List Row) (crew : List Worker) (answer : Answer) (versions_exit : List Version)
+      (results_exit : List ℕ)
+      → (answer ≡ (advance_of whole.state party log records newest versions results).stepped.answer)
+      × ((rows ≡ (advance_of whole.state party log records newest versions results).stepped.state.rows)
+      × ((crew ≡ (advance_of whole.state party log records newest versions results).stepped.state.crew)
+      × ((versions_exit ≡ (advance_of whole.state party log records newest versions results).versions)
+      × (results_exit ≡ (advance_of whole.state party log records newest versions results).results))))
+      → after
+      ≡ counted (record tally { state = joined (numbers_of tally.state) rows crew }) answer
+      (joined (numbers_of tally.state) rows crew)
+      → session_of (with_numbers after before) records newest versions_exit results_exit
+      ≡ offer_of step log session
+  LaterMet (Some Seal) =
+      (sealed : Counted) (records_exit newest_exit : List ℕ) (versions_exit : List Version)
+      → (sealed ≡ counted_of (seal_of whole.state records newest versions).stepped)
+      × ((records_exit ≡ (seal_of whole.state records newest versions).records)
+      × ((newest_exit ≡ (seal_of whole.state records newest versions).newest)
+      × (versions_exit ≡ (seal_of whole.state records newest versions).versions)))
+      → after ≡ counted_seal tally sealed.answer tally.state
+      → session_of (with_numbers after sealed.numbers) records_exit newest_exit versions_exit results
+      ≡ offer_of step log session
+  LaterMet None =
+      after ≡ refused_at_once tally
+      → session_of (with_numbers after before) records newest versions results ≡ offer_of step log session
+
+  pub later_met : T (not (is_place step)) → T (not (is_claim step)) → LaterMet (asked_of step)
+  later_met off off2 = go (is_place step) (is_claim step) (is_advance step) (is_seal step) off off2 refl
+    where
+      asks : Bool → Bool → Bool → Bool → Option Asked
+      asks place claim advance seal =
+          cond place (Some (Place step.party)) (cond claim (Some (Claim step.party step.transaction))
+          (cond advance (Some (Advance step.party)) (cond seal (Some Seal) None)))
+
+      go : (place claim advance seal : Bool) → T (not place) → T (not claim)
+          → asks place claim advance seal ≡ asked_of step → LaterMet (asks place claim advance seal)
+      go true claim advance seal off off2 is = off
+      go false true advance seal off off2 is = off2
+      go false false true seal off off2 is =
+          λ rows crew answer versions_exit results_exit own count.
+          advance_met rows crew answer count step.party versions_exit results_exit is own
+      go false false false true off off2 is =
+          λ sealed records_exit newest_exit versions_exit own count.
+          seal_met sealed records_exit newest_exit versions_exit is own count
+      go false false false false off off2 is = λ count. none_met is count

@@ -157,10 +157,10 @@ module _ (s : State) (w : ℕ) (log records newest : List ℕ) (versions : List 
   abbrev put_together : Answer → List Row → List Worker → Stepped
   put_together answer rows crew = record { answer = answer; state = joined (numbers_of s) rows crew }
 
-  pub advance_stepped : (answer : Answer) (rows : List Row) (crew : List Worker) → answer ≡ advanced.stepped.answer
+  pub advance_joined : (answer : Answer) (rows : List Row) (crew : List Worker) → answer ≡ advanced.stepped.answer
       → rows ≡ advanced.stepped.state.rows → crew ≡ advanced.stepped.state.crew
       → put_together answer rows crew ≡ advanced.stepped
-  advance_stepped answer rows crew answer_is rows_are crew_are =
+  advance_joined answer rows crew answer_is rows_are crew_are =
       rw (answer_is, rows_are, crew_are, ← decided_is) (go decided)
     where
       again : Stepped → Stepped
@@ -175,3 +175,14 @@ module _ (s : State) (w : ℕ) (log records newest : List ℕ) (versions : List 
       go : (move : Result Move Refused) → again (whole move).stepped ≡ (whole move).stepped
       go (Ok move) = left move.left mine.transaction move.worker (answer_of move.waits)
       go (Err why) = refl
+
+  -- what is decided is the definition's: its answer, and the numbers as they were, joined with the transactions and the
+  -- workers that it leaves
+  pub advance_stepped : record {
+    answer = answered decided;
+    state = joined (numbers_of s) (rows_by decided s.rows mine.transaction) (crew_by decided s.crew w);
+  }
+      ≡ advanced.stepped
+  advance_stepped =
+      advance_joined (answered decided) (rows_by decided s.rows mine.transaction) (crew_by decided s.crew w)
+      advance_answer advance_rows advance_crew

@@ -1,9 +1,10 @@
 -- Laws of placing with lent transactions and workers: the way that the code goes.
-use Rattle.std.specs.Prelude.{ℕ, List, ◌≡◌, refl, length, set, Result, Ok, Err}
+use Rattle.std.specs.Prelude.{ℕ, List, ◌≡◌, refl, length, Result, Ok, Err}
 use Rattle.terms.specs.Refusals.{Verdict}
 use Rattle.terms.specs.declared.refusal.Refused.{Refused}
 use Rattle.versions.specs.declared.Version.{Version}
-use Rattle.engine.specs.LawsPlace.{placing_of, place_plan, both, place_tables, place_newest, place_versions}
+use Rattle.engine.specs.LawsPlace.{placing_of, place_plan, numbers_after, both, place_tables}
+use Rattle.engine.specs.LawsPlace.{place_newest, place_versions}
 use Rattle.engine.specs.LawsPlan.{if_accepted, answered}
 use Rattle.engine.specs.Lent.{joined, counted_of}
 use Rattle.engine.specs.Place.{place_verdict, placed_when, place_of}
@@ -14,24 +15,7 @@ use Rattle.engine.specs.declared.lent.Counted.{Counted}
 use Rattle.engine.specs.declared.lent.Numbers.{Numbers}
 use Rattle.engine.specs.declared.place.Placing.{Placing}
 
--- a partition has placed so many
-abbrev pub placed_numbers : Numbers → ℕ → ℕ → Numbers
-placed_numbers numbers p count =
-    record {
-      records = numbers.records;
-      partitions = numbers.partitions;
-      workers = numbers.workers;
-      next = numbers.next;
-      size = numbers.size;
-      batch = numbers.batch;
-      placed = set numbers.placed p count;
-    }
-
--- the numbers after it
-abbrev pub numbers_after : Result Placing Refused → Numbers → ℕ → Numbers
-numbers_after (Ok plan) numbers p = placed_numbers numbers p plan.count
-numbers_after (Err why) numbers p = numbers
-
+-- the answer and the numbers after it
 abbrev pub counted_as : Numbers → ℕ → Result Placing Refused → Counted
 counted_as numbers p plan = record { answer = answered plan; numbers = numbers_after plan numbers p }
 

@@ -9,7 +9,7 @@ use Rattle.engine.specs.Counting.{some_below}
 use Rattle.engine.specs.LawsCounting.{same_below, none_past}
 use Rattle.engine.specs.LawsHeld.{few_of, few_most, few_all}
 use Rattle.engine.specs.LawsPlan.{if_accepted, answered}
-use Rattle.engine.specs.LawsSeal.{seal_plan, records_after, newest_after, versions_after}
+use Rattle.engine.specs.LawsSeal.{seal_plan, numbers_after, records_after, newest_after, versions_after}
 use Rattle.engine.specs.LawsSeal.{seal_records, seal_newest, seal_versions}
 use Rattle.engine.specs.Lent.{row_of, joined, numbers_of, counted_of}
 use Rattle.engine.specs.Moment.{row_unfinished}
@@ -34,10 +34,6 @@ unfinished_told numbers rows crew =
     rw (le-ltb k numbers.size (few_all numbers.size k past below)) refl)
 
 -- the answer and the numbers after it
-abbrev pub numbers_after : Result Numbers Refused → Numbers → Numbers
-numbers_after (Ok after) numbers = after
-numbers_after (Err why) numbers = numbers
-
 abbrev pub closed_numbers : Numbers → Result Numbers Refused → Counted
 closed_numbers numbers plan = record { answer = answered plan; numbers = numbers_after plan numbers }
 

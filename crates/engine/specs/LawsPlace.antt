@@ -1,6 +1,6 @@
 -- Laws of placing: the way that the code goes.
 use Rattle.std.specs.Prelude.{ℕ, zero, suc, ◌+◌, Bool, true, false, ◌&&◌, cond, List, [], ◌∷◌, ◌≡◌, refl}
-use Rattle.std.specs.Prelude.{length, get_or, Option, None, Some, Result, Ok, Err}
+use Rattle.std.specs.Prelude.{length, get_or, set, Option, None, Some, Result, Ok, Err}
 use Rattle.std.specs.Bool.{then_some}
 use Rattle.std.proofs.Common.{ap, ◌∙◌}
 use Rattle.terms.specs.Refusals.{Verdict}
@@ -9,12 +9,13 @@ use Rattle.packed.specs.declared.Transaction.{Transaction}
 use Rattle.versions.specs.declared.Version.{Version}
 use Rattle.engine.specs.Counting.{some_below}
 use Rattle.engine.specs.Lent.{joined, numbers_of}
-use Rattle.engine.specs.LawsPlan.{if_accepted}
+use Rattle.engine.specs.LawsPlan.{if_accepted, answered}
 use Rattle.engine.specs.Place.{meaning_at, slot_of, position_of, written_in, not_below, meets_wrong, place_verdict}
 use Rattle.engine.specs.Place.{Plans, write_of, place_write, place_below, placed_when, place_of}
 use Rattle.engine.specs.Range.{placed_by}
 use Rattle.engine.specs.Tables.{newest_of}
 use Rattle.engine.specs.declared.State.{State}
+use Rattle.engine.specs.declared.lent.Numbers.{Numbers}
 use Rattle.engine.specs.declared.place.Placing.{Placing}
 
 -- ---- the plan of a place step
@@ -39,6 +40,24 @@ placing_of s p log = placing_with s p (placed_by s p) (meaning_at s log (placed_
 
 abbrev pub place_plan : State → ℕ → List ℕ → List ℕ → ℕ → Result Placing Refused
 place_plan s p log newest versions = if_accepted (place_verdict s p log newest versions) (placing_of s p log)
+
+-- a partition has placed so many
+abbrev pub placed_numbers : Numbers → ℕ → ℕ → Numbers
+placed_numbers numbers p count =
+    record {
+      records = numbers.records;
+      partitions = numbers.partitions;
+      workers = numbers.workers;
+      next = numbers.next;
+      size = numbers.size;
+      batch = numbers.batch;
+      placed = set numbers.placed p count;
+    }
+
+-- the numbers after it
+abbrev pub numbers_after : Result Placing Refused → Numbers → ℕ → Numbers
+numbers_after (Ok plan) numbers p = placed_numbers numbers p plan.count
+numbers_after (Err why) numbers p = numbers
 
 -- ---- 15
 abbrev pub meets_at : ℕ → Option ℕ → ℕ → List ℕ → Bool
@@ -86,14 +105,32 @@ place_tables (Ok plan) plans = writes_below 4 plan plans
 place_tables (Err why) plans = plans
 
 module _ (s : State) (p : ℕ) (log newest : List ℕ) (versions : List Version) where
-  -- only the numbers change: the state by value, put together again
+  -- the plan's answer and numbers, joined with transactions and workers as they were, are the definition's
   pub place_stepped : record {
+    answer = answered (place_plan s p log newest (length versions));
+    state = joined (numbers_after (place_plan s p log newest (length versions)) (numbers_of s) p) s.rows s.crew;
+  }
+      ≡ (place_of s p log newest versions).stepped
+  unfolding place_of
+  place_stepped = go (place_verdict s p log newest (length versions))
+    where
+      go : (v : Verdict)
+          → record {
+            answer = answered (if_accepted v (placing_of s p log));
+            state = joined (numbers_after (if_accepted v (placing_of s p log)) (numbers_of s) p) s.rows s.crew;
+          }
+          ≡ (placed_when v s p log (both newest versions)).stepped
+      go (Ok tt) = refl
+      go (Err why) = refl
+
+  -- only the numbers change: the state by value, put together again, from the definition's own
+  pub place_joined : record {
     answer = (place_of s p log newest versions).stepped.answer;
     state = joined (numbers_of (place_of s p log newest versions).stepped.state) s.rows s.crew;
   }
       ≡ (place_of s p log newest versions).stepped
   unfolding place_of
-  place_stepped = go (place_verdict s p log newest (length versions))
+  place_joined = go (place_verdict s p log newest (length versions))
     where
       go : (v : Verdict)
           → record {

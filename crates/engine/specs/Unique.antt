@@ -1,12 +1,14 @@
 -- Each contract determines its call's whole result: two results that satisfy it are equal.
 use Rattle.std.specs.Prelude.{ℕ, List, ◌≡◌}
 use Rattle.terms.specs.Unique.{same}
+use Rattle.terms.specs.declared.refusal.Refused.{Refused}
 use Rattle.versions.specs.declared.Version.{Version}
 use Rattle.engine.specs.Answers.{answer_number, answer_place, answer_position}
 use Rattle.engine.specs.Claim.{claim_of}
 use Rattle.engine.specs.Met.{OpenMet, PlaceMet, AdvanceMet, SealMet}
 use Rattle.engine.specs.Make.{make_of}
 use Rattle.engine.specs.declared.Answer.{Answer}
+use Rattle.engine.specs.declared.Answer.TheVariants.{Refused as RefusedBy}
 use Rattle.engine.specs.declared.Made.{Made}
 use Rattle.engine.specs.declared.State.{State}
 use Rattle.engine.specs.declared.Stepped.{Stepped}
@@ -26,6 +28,12 @@ answer_place_unique answer a b = same
 pub answer_position_unique : (answer : Answer) (a b : ℕ) → a ≡ answer_position answer → b ≡ answer_position answer
     → a ≡ b
 answer_position_unique answer a b = same
+
+-- `Answer::from`
+pub answer_unique : (why : Refused) (a b : Answer) → a ≡ RefusedBy why.refusal why.place
+    → b ≡ RefusedBy why.refusal why.place
+    → a ≡ b
+answer_unique why a b = same
 
 -- The calls that are lent tables: two results, with what each lent table holds at exit, that satisfy the contract are
 -- equal, each to each.

@@ -1,19 +1,20 @@
 -- The contracts of the steps on lent transactions and workers, and that each determines its step's whole result: two
 -- results, with what each lent run and table holds at exit, that satisfy it are equal, each to each. s is the state
--- that
--- numbers, transactions and workers make together.
+-- that numbers, transactions and workers make together.
 use Rattle.std.specs.Prelude.{ℕ, List, ◌≡◌}
 use Rattle.terms.specs.Unique.{same}
 use Rattle.versions.specs.declared.Version.{Version}
 use Rattle.engine.specs.Advance.{Advanced}
-use Rattle.engine.specs.Lent.{counted_of}
+use Rattle.engine.specs.Lent.{counted_of, numbers_of}
 use Rattle.engine.specs.Place.{Placed}
 use Rattle.engine.specs.Seal.{Sealed}
 use Rattle.engine.specs.declared.Answer.{Answer}
 use Rattle.engine.specs.declared.Row.{Row}
+use Rattle.engine.specs.declared.State.{State}
 use Rattle.engine.specs.declared.Stepped.{Stepped}
 use Rattle.engine.specs.declared.Worker.{Worker}
 use Rattle.engine.specs.declared.lent.Counted.{Counted}
+use Rattle.engine.specs.declared.lent.Numbers.{Numbers}
 
 -- `lent::place`, at what `place_of` says
 abbrev pub LentPlaceMet : Placed → Counted → List ℕ → List Version → Type 0
@@ -74,3 +75,7 @@ lent_seal_unique sealed a b a_records b_records a_newest b_newest a_versions b_v
     (same one.1.1.0 two.1.1.0, same one.1.1.1 two.1.1.1),
   ),
 )
+
+-- `lent::numbers_of`
+pub lent_numbers_unique : (s : State) (a b : Numbers) → a ≡ numbers_of s → b ≡ numbers_of s → a ≡ b
+lent_numbers_unique s a b = same

@@ -12,7 +12,7 @@ pub(crate) mod sealing;
 ghost use Rattle.std.specs.Prelude.{◌≡◌, []};
 ghost use Rattle.engine.specs.Lent.{joined, numbers_of};
 ghost use Rattle.engine.specs.Range.{placed_by};
-ghost use Rattle.engine.specs.LawsLentPlace.{placed_numbers};
+ghost use Rattle.engine.specs.LawsPlace.{placed_numbers};
 
 use crate::{Answer, Row, State, Stepped, Worker, tables};
 pub use advancing::advance;
