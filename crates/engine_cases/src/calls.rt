@@ -74,8 +74,9 @@ impl Call {
     }
 
     // Makes the call on this state, and lends it what it asks for.
-    pub fn step(self, state: State, log: &[u8], tables: &mut Tables<'_>) -> Stepped {
-        // One by one: the borrow checker does not cover a pattern over the four.
+    pub fn step(self, state: State, tables: &mut Tables<'_>) -> Stepped {
+        // One by one: the borrow checker does not cover a pattern over them.
+        let log = tables.log;
         let newest = &mut *tables.newest;
         let versions = &mut *tables.versions;
         let records = &mut *tables.records;

@@ -1,6 +1,8 @@
 // What stands in the state's rows and crew and in the tables, as the numbers of a case file.
+ghost use Rattle.std.specs.Prelude.{◌≤◌};
+
 use crate::numbers::{byte, next, next_all, word};
-use crate::print;
+use crate::{print, state};
 use counters::Outcome;
 use engine::{Phase, Progress, Row, Worker};
 use std::io;
@@ -104,7 +106,9 @@ fn outcome(code: u64) -> Outcome {
     }
 }
 
-fn outcome_code(outcome: Outcome) -> u64 {
+fn outcome_code(outcome: Outcome) -> u64
+    ensures { result ≤ 1 }
+{
     match outcome {
         Outcome::Committed => 0,
         Outcome::Aborted => 1,
@@ -168,28 +172,20 @@ impl Entry for Worker {
     }
 
     fn print(self, rt: &impl Print, index: usize) -> io::Result<()> {
-        // By a pattern: the types of `engine` derive no equality.
-        match self {
-            Worker {
-                phase: Phase::Idle,
-                transaction: 0,
-                values: [0, 0, 0, 0],
-                contents: [0, 0, 0, 0],
-                carried: [false, false, false, false],
-            } => Ok(()),
-            Worker {
-                phase,
-                transaction,
-                values,
-                contents,
-                carried,
-            } => {
-                let [code, outcome, read, carries, fills] = phase_numbers(phase);
-                print!(rt; " {index} {code} {transaction} {outcome} {read} {carries} {fills}")?;
-                print::numbers(rt, &values)?;
-                print::numbers(rt, &contents)?;
-                print::numbers(rt, &carried.map(u64::from))
-            }
+        if self == state::IDLE {
+            return Ok(());
         }
+        let Worker {
+            phase,
+            transaction,
+            values,
+            contents,
+            carried,
+        } = self;
+        let [code, outcome, read, carries, fills] = phase_numbers(phase);
+        print!(rt; " {index} {code} {transaction} {outcome} {read} {carries} {fills}")?;
+        print::numbers(rt, &values)?;
+        print::numbers(rt, &contents)?;
+        print::numbers(rt, &carried.map(u64::from))
     }
 }

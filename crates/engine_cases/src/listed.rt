@@ -27,7 +27,7 @@ const WHOLE: usize = 341;
 // Length and count are of the table and the list in the file, and not of what is kept.
 #[derive(Clone, Copy)]
 pub(crate) struct List {
-    length: usize,
+    pub length: usize,
     // How many entries the case has, also those that are not kept.
     count: usize,
     kept: [Listed; WHOLE + 1],
@@ -36,9 +36,10 @@ pub(crate) struct List {
 impl List {
     // The list that follows in the file.
     pub fn next(file: &mut impl Read) -> io::Result<List> {
+        // Ahead of all that may fail, as in `case`.
+        let mut kept = [(0, ZEROS); WHOLE + 1];
         let length = numbers::next(file)? as usize;
         let mut count = 0;
-        let mut kept = [(0, ZEROS); WHOLE + 1];
         // By index, and the count from it: the list goes on to an end mark, and each read may fail.
         for index in 0..=LONGEST {
             let Some(listed) = tables::next_entry(file, u64::MAX)? else {
@@ -67,16 +68,11 @@ impl List {
             .take(self.count)
     }
 
-    // The table that a call is lent, in this space: it has the right length, 256, or is far too long.
-    pub fn table<'a>(&self, space: &'a mut [Version; LONGEST]) -> &'a mut [Version] {
-        let table = match self.length {
-            256 => &mut space[..256],
-            _ => &mut space[..],
-        };
+    // Puts the entries into the table that a call is lent.
+    pub fn load(&self, table: &mut [Version]) {
         for (slot, version) in self.entries() {
             versions::put_at(table, slot, version);
         }
-        table
     }
 
     // The line of a table that the call was not lent: as the case has it.

@@ -7,7 +7,7 @@ use std::io::Read;
 use terms::{BatchNumber, Position};
 
 // "the all-zero idle one". Written out, as is the row: the types of `engine` derive no Default.
-const IDLE: Worker = Worker {
+pub(crate) const IDLE: Worker = Worker {
     phase: Phase::Idle,
     transaction: 0,
     values: [0; 4],

@@ -8,13 +8,14 @@ use versions::Version;
 // A table has at most this many entries.
 pub(crate) const LONGEST: usize = 70000;
 
-// The tables that the caller lends.
+// The tables that the caller lends, and the log.
 #[derive(Drop)]
 pub(crate) struct Tables<'a> {
     pub newest: &'a mut [u16],
     pub versions: &'a mut [Version],
     pub records: &'a mut [u64],
     pub results: &'a mut [u64],
+    pub log: &'a [u8],
 }
 
 // The next entry, after its index; None where the end mark stands.
