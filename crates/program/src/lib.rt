@@ -6,7 +6,7 @@ mod files;
 mod print;
 mod tables;
 
-use desk::make_for;
+use desk::{make_for, refusal_line};
 pub use files::{close, load, whole};
 use std::io;
 use std::io::{Read, Seek};
@@ -38,8 +38,8 @@ impl Setup {
     };
 }
 
-// All that the program does. The only error is that of a read, a seek or a write; what was printed before it stays
-// printed.
+// All that the program does. A store that cannot be made is a refused opening. The only error is that of a read, a seek
+// or a write; what was printed before it stays printed.
 pub fn run<R: Print, F: Read + Seek>(
     rt: &R,
     setup: Setup,
@@ -50,7 +50,7 @@ pub fn run<R: Print, F: Read + Seek>(
     let made = make_for(stored.length, setup.partitions, setup.workers);
     match made.verdict {
         Ok(()) => tables::run_made(rt, made.state, setup, stored, log, steps),
-        Err(why) => print::refused(rt, why.refusal),
+        Err(why) => print::print(rt, refusal_line(why.refusal)),
     }
 }
 

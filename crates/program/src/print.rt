@@ -1,20 +1,14 @@
 // What the program prints.
 use crate::Setup;
 use crate::tables::Tables;
-use desk::{Line, Tally, counts_of, not_sealed_line, record_at, refusal_line, transaction_at};
+use desk::{Line, Tally, counts_of, not_sealed_line, record_at, transaction_at};
 use std::io;
-use terms::Refusal;
 
-fn print(rt: &impl Print, line: Line) -> io::Result<()> {
+pub(crate) fn print(rt: &impl Print, line: Line) -> io::Result<()> {
     if let Some(text) = line.bytes.get(..line.length) {
         rt.write_all(text)?;
     }
     Ok(())
-}
-
-// "A refused opening prints only "refused" and the number." A store that cannot be made is one.
-pub(crate) fn refused(rt: &impl Print, refusal: Refusal) -> io::Result<()> {
-    print(rt, refusal_line(refusal))
 }
 
 // By index, here and for the records: `desk` is lent a table and makes the line of the place in it that it is given.

@@ -1,6 +1,6 @@
 // A batch over its tables, which are local arrays.
 use crate::{Part, Setup, files, print};
-use desk::{Tally, begin, offer_all};
+use desk::{Tally, begin, offer_all, opening_line};
 use engine::{Answer, State};
 use std::io;
 use std::io::{Read, Seek};
@@ -45,7 +45,8 @@ fn work<F: Read>(
     Ok(tally)
 }
 
-// The batch is opened and worked off, and what is after it is printed.
+// The batch is opened and worked off, and what is after it is printed. "A refused opening prints only "refused" and
+// the number."
 fn batch<R: Print, F: Read>(
     rt: &R,
     state: State,
@@ -54,8 +55,8 @@ fn batch<R: Print, F: Read>(
     tables: &mut Tables<'_>,
 ) -> io::Result<()> {
     let opened = state.open(tables.log, tables.newest, tables.versions, tables.results);
-    if let Answer::Refused(refusal, _) = opened.answer {
-        return print::refused(rt, refusal);
+    if let Answer::Refused(..) = opened.answer {
+        return print::print(rt, opening_line(opened));
     }
     let tally = work(begin(opened.state), steps, tables)?;
     print::all(rt, tally, setup, tables)
