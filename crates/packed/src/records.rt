@@ -93,7 +93,8 @@ pub(crate) fn sets_proper(b: &Entry, n: usize) -> bool
 }
 
 // The record is not declared: it has no place within the count. By the four places, each with its own test of the
-// count: found by `position`, or asked by `any`, and the count compared with it, it took half as long again.
+// count: with the place found by `position` and compared with it, unpacking took a sixth longer; by `any`, half as long
+// again.
 fn is_unlisted(set: &[u16; 4], count: u8, number: u16) -> bool
     ensures { result ≡ unlisted set.now count number }
 {
